@@ -1,0 +1,5 @@
+use Rattle.seek.proofs.Places.{Left}
+use Rattle.seek.proofs.find_in.Given as given
+
+abbrev pub Inv-loop-i : given.InvT-loop-i
+Inv-loop-i g l = Left (λ t. g .R·Keyed .bears t (l .key)) (g .S·Table .records (l .table)) (l .i)
