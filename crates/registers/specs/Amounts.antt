@@ -11,11 +11,11 @@ unfoldable pub rounded : ℕ → ℕ → ℕ
 rounded d n = (2 * n + d) / (2 * d)
 
 -- kopecks that a quantity costs at a price in ten-thousandths of a ruble
-unfoldable pub moneyOf : ℕ → ℕ → ℕ
+abbrev pub moneyOf : ℕ → ℕ → ℕ
 moneyOf q p = rounded 100 (q * p)
 
 -- kopecks of collateral under a ratio in ten-thousandths
-unfoldable pub riskOf : ℕ → ℕ → ℕ → ℕ
+abbrev pub riskOf : ℕ → ℕ → ℕ → ℕ
 riskOf q p k = rounded 1000000 (q * p * k)
 
 -- a number that lies in a range, or none

@@ -60,12 +60,15 @@ module _ {X : Type 0} (p : X → Bool) (xs : List X) (i : ℕ) (h : i < length x
   stands : (x : X) → nth xs i ≡ Some x → x ≡ getD xs i x
   stands x e = let k = nth-getD xs i x h in cc
 
-  by-place : (o : Option X) → nth xs i ≡ o → passes p o ≡ true → Left p xs i → (placeOf p xs ≡ Some i) × BearsAt p xs i
+  by-place : (o : Option X) → nth xs i ≡ o → passes p o ≡ true → Left p xs i → (Some i ≡ placeOf p xs) × BearsAt p xs i
   by-place None e t left = absurd (never t)
-  by-place (Some x) e t left = (found p xs i x h (stands x e) t left, borne p xs i x h (stands x e) t)
+  by-place (Some x) e t left = (sym (found p xs i x h (stands x e) t left), borne p xs i x h (stands x e) t)
 
-  pub found-at : passes p (nth xs i) ≡ true → Left p xs i → (placeOf p xs ≡ Some i) × BearsAt p xs i
-  found-at t left = by-place (nth xs i) refl t left
+  pub found-at : true ≡ passes p (nth xs i) → Left p xs i → Some i ≡ placeOf p xs
+  found-at t left = by-place (nth xs i) refl (sym t) left .0
+
+  pub borne-at : true ≡ passes p (nth xs i) → Left p xs i → BearsAt p xs i
+  borne-at t left = by-place (nth xs i) refl (sym t) left .1
 
   past-place : (o : Option X) → nth xs i ≡ o → passes p o ≡ false → Left p xs i → placeOf p xs ≡ onBy (i + 1) (placeOf p (drop (i + 1) xs))
   past-place None e t left = absurd (there xs i h e)

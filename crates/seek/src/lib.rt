@@ -54,9 +54,9 @@ pub fn find_in<K: Copy, R: Keyed<K> + Drop, S: Table<R>>(table: &S, key: K) -> O
     ensures within { λ r. ⌜ BySome r (Unit {0}) (λ i. i < length (S·Table .records (now (table .entry)))) ⌝ }
     ensures borne { λ r. ⌜ BySome r (Unit {0}) (λ i. BearsAt (λ t. R·Keyed .bears t key) (S·Table .records (now (table .entry))) i) ⌝ }
 {
-    for i in 0..table.count() {
-        if bears_at(table, i, key) {
-            return Some(i);
+    for place in 0..table.count() {
+        if bears_at(table, place, key) {
+            return Some(place);
         }
     }
     None

@@ -1,0 +1,15 @@
+//! Runs the sample dealings and prints what each step did.
+
+mod amounts;
+mod damage;
+mod examples;
+mod stores;
+
+use std::io;
+
+fn main(rt: LibcRuntime) -> io::Result<()> {
+    examples::examples_hold();
+    amounts::show(&rt)?;
+    stores::show(&rt)?;
+    damage::show(&rt)
+}
