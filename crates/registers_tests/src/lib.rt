@@ -176,7 +176,7 @@ mod tests {
 
     #[test]
     fn an_image_of_header_alone() -> Result<(), Fail> {
-        let mut bytes = [0; 37];
+        let mut bytes = [0; 7];
         check(image::format(&mut bytes))?;
         let mut store = ImageStore::new(&mut bytes);
         check_eq(store.room(), 0)?;

@@ -1,0 +1,82 @@
+//! The ranges of a call's arguments.
+
+ghost use mathlib.Core.Path.{_≡_};
+ghost use Rattle.std.specs.Options.{mapped};
+ghost use Rattle.full.specs.Terms.{codeOk, securityOk, numberOk, amountOk, limitOk, modeOf, termsOf, termsAs, bargainOf, bargainAs};
+use crate::order::Mode;
+use crate::terms::Announcement;
+use crate::terms::Bargain;
+use crate::terms::Deal;
+use crate::terms::Terms;
+use registers::ranges::Price;
+use registers::ranges::Quantity;
+
+/// Whether an account code is from 100 to 999,999.
+pub fn code_ok(code: u32) -> bool
+    ensures { λ r. ⌜ r ≡ codeOk code ⌝ }
+{
+    100 <= code && code <= 999_999
+}
+
+/// Whether a security's number is from 1 to 9,999.
+pub fn security_ok(number: u16) -> bool
+    ensures { λ r. ⌜ r ≡ securityOk number ⌝ }
+{
+    1 <= number && number <= 9_999
+}
+
+/// Whether the number of an order or of a trade is 1 or more.
+pub fn number_ok(number: u32) -> bool
+    ensures { λ r. ⌜ r ≡ numberOk number ⌝ }
+{
+    1 <= number
+}
+
+/// Whether an amount is from 1 to 10^14.
+pub fn amount_ok(units: u64) -> bool
+    ensures { λ r. ⌜ r ≡ amountOk units ⌝ }
+{
+    1 <= units && units <= 100_000_000_000_000
+}
+
+/// Whether a limit or a margin is from 0 to 10^14.
+pub fn limit_ok(units: u64) -> bool
+    ensures { λ r. ⌜ r ≡ limitOk units ⌝ }
+{
+    units <= 100_000_000_000_000
+}
+
+fn mode(number: u8) -> Option<Mode>
+    ensures { λ r. ⌜ r ≡ modeOf number ⌝ }
+{
+    match number {
+        1 => Some(Mode::Full),
+        2 => Some(Mode::Partial),
+        _ => None,
+    }
+}
+
+/// An announcement's numbers, or `None` where an argument lies outside its range.
+pub fn terms(a: Announcement) -> Option<Terms>
+    ensures { λ r. ⌜ mapped termsAs r ≡ termsOf a ⌝ }
+{
+    let mode = mode(a.mode)?;
+    if !number_ok(a.number) || !code_ok(a.account) || !security_ok(a.security) {
+        return None;
+    }
+    let quantity = Quantity::new(a.quantity)?;
+    let price = Price::new(a.price)?;
+    Some(Terms { mode, quantity, price })
+}
+
+/// A trade's numbers, or `None` where an argument lies outside its range.
+pub fn bargain(d: Deal) -> Option<Bargain>
+    ensures { λ r. ⌜ mapped bargainAs r ≡ bargainOf d ⌝ }
+{
+    if !number_ok(d.number) || !number_ok(d.buy) || !number_ok(d.sell) {
+        return None;
+    }
+    let quantity = Quantity::new(d.quantity)?;
+    let price = Price::new(d.price)?;
+    Some(Bargain { quantity, price })
+}
