@@ -67,8 +67,8 @@ module _ (t : List Security) (filled : ℕ) (long : length t ≡ 64) where
       ∙ map-push admittedOf (take n t) (admittedOf-id s)
       ∙ ap (λ (k : ℕ). map admittedOf (take k t) ++ admittedOf s ∷ []) e
     where
-    admittedOf-id : Security → Security
-    admittedOf-id x = x
+      admittedOf-id : Security → Security
+      admittedOf-id x = x
 
   -- the ratio of the one that was found
   pub ratio-listed : (i : ℕ) (d : Security) → i < min filled 64 → Some (getD t i d .ratio .value) ≡ ratioAt listed (Some i)
@@ -76,3 +76,7 @@ module _ (t : List Security) (filled : ℕ) (long : length t ≡ 64) where
       let l : i < length listed = omega (arith, length-listed) in
       let g : getD listed i (admittedOf d) ≡ admittedOf (getD t i d) = getD-map admittedOf (take (min filled 64) t) i d (admittedOf d) (simp length-take (omega arith)) ∙ ap admittedOf (getD-take (min filled 64) t i d h) in
       sym (ap (mapped (λ a. a .ratio)) (nth-getD listed i (admittedOf d) l ∙ ap Some g))
+
+-- what was read at a place of the book
+pub slot-is : (os : List (Option Order)) (i : ℕ) (d x : Option Order) → i < length os → getD os i d ≡ x → slotOf x ≡ getD (map slotOf os) i None
+slot-is os i d x h e = sym (getD-slots os i ∙ ap slotOf (getD-default os i None d h ∙ e))

@@ -38,7 +38,10 @@ impl Book {
         ensures orders { λ r. ⌜ slotsOf r ≡ replicate 256 None ⌝ }
         ensures last { λ r. ⌜ r .last ≡ 0 ⌝ }
     {
-        Book { orders: [None; 256], last: 0 }
+        Book {
+            orders: [None; 256],
+            last: 0,
+        }
     }
 
     fn places(&self) -> usize
@@ -53,6 +56,7 @@ impl Book {
     pub fn place_of(&self, number: u32) -> Option<usize>
         ensures place { λ r. ⌜ r ≡ placeOfOrder number (slotsOf (now (self .entry))) ⌝ }
         ensures within { λ r. ⌜ BySome r (Unit {0}) (λ i. i < 256) ⌝ }
+        ensures inside { λ r. ⌜ BySome r (Unit {0}) (λ i. i < length (now (self .entry) .orders)) ⌝ }
     {
         seek::find(&self.orders, OrderNumber(number))
     }
@@ -61,6 +65,7 @@ impl Book {
     pub fn free_place(&self) -> Option<usize>
         ensures place { λ r. ⌜ r ≡ freePlace (slotsOf (now (self .entry))) ⌝ }
         ensures within { λ r. ⌜ BySome r (Unit {0}) (λ i. i < 256) ⌝ }
+        ensures inside { λ r. ⌜ BySome r (Unit {0}) (λ i. i < length (now (self .entry) .orders)) ⌝ }
     {
         seek::find(&self.orders, Free)
     }
@@ -112,6 +117,9 @@ impl Order {
             return None;
         }
         let count = self.rest.count - traded.count;
-        Some(Order { rest: Quantity { count }, ..self })
+        Some(Order {
+            rest: Quantity { count },
+            ..self
+        })
     }
 }

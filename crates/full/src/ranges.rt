@@ -1,13 +1,17 @@
 //! The ranges of a call's arguments.
 
 ghost use mathlib.Core.Path.{_≡_};
+ghost use mathlib.Core.Bool.{cond, true};
+ghost use Prim.Native.Nat.{_≤_};
 ghost use Rattle.std.specs.Options.{mapped};
+ghost use Rattle.std.specs.declared.option.Option.the-variants.{Some, None};
 ghost use Rattle.full.specs.Terms.{codeOk, securityOk, numberOk, amountOk, limitOk, modeOf, termsOf, termsAs, bargainOf, bargainAs};
 use crate::order::Mode;
 use crate::terms::Announcement;
 use crate::terms::Bargain;
 use crate::terms::Deal;
 use crate::terms::Terms;
+use registers::ranges::Amount;
 use registers::ranges::Price;
 use registers::ranges::Quantity;
 
@@ -32,16 +36,20 @@ pub fn number_ok(number: u32) -> bool
     1 <= number
 }
 
-/// Whether an amount is from 1 to 10^14.
-pub fn amount_ok(units: u64) -> bool
-    ensures { λ r. ⌜ r ≡ amountOk units ⌝ }
+/// An amount from 1 to 10^14, or `None` outside that range.
+pub fn amount(units: u64) -> Option<Amount>
+    ensures { λ r. ⌜ mapped (λ a. a .units) r ≡ cond (amountOk units) (Some units) None ⌝ }
 {
-    1 <= units && units <= 100_000_000_000_000
+    if units < 1 || units > 100_000_000_000_000 {
+        return None;
+    }
+    Some(Amount { units })
 }
 
 /// Whether a limit or a margin is from 0 to 10^14.
 pub fn limit_ok(units: u64) -> bool
-    ensures { λ r. ⌜ r ≡ limitOk units ⌝ }
+    ensures answer { λ r. ⌜ r ≡ limitOk units ⌝ }
+    ensures bound { λ r. ⌜ (r ≡ true → units ≤ 100000000000000) ⌝ }
 {
     units <= 100_000_000_000_000
 }
@@ -66,7 +74,11 @@ pub fn terms(a: Announcement) -> Option<Terms>
     }
     let quantity = Quantity::new(a.quantity)?;
     let price = Price::new(a.price)?;
-    Some(Terms { mode, quantity, price })
+    Some(Terms {
+        mode,
+        quantity,
+        price,
+    })
 }
 
 /// A trade's numbers, or `None` where an argument lies outside its range.

@@ -28,7 +28,10 @@ impl Securities {
         ensures { λ r. ⌜ listOf r ≡ [] ⌝ }
     {
         let ratio = Ratio { value: 1 };
-        Securities { table: [Security { number: 0, ratio }; 64], filled: 0 }
+        Securities {
+            table: [Security { number: 0, ratio }; 64],
+            filled: 0,
+        }
     }
 
     fn room(&self) -> usize

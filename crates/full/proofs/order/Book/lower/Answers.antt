@@ -13,10 +13,12 @@ pub returns-in-Some : need.returns-in-Some
 returns-in-Some c =
     record {
       orders = slots-lowered (c .args .self .now .orders) (c .args .place) (c .args .traded .count) (c .index-self-place .result) (c .less-left .result) (c .in-Some .order) (omega arith) (c .in-Some .is) (c .less-left .ensures);
-      last = refl }
+      last = refl;
+    }
 
 pub returns-in-rest : need.returns-in-rest
 returns-in-rest c =
     record {
       orders = slots-kept (c .args .self .now .orders) (c .args .place) (c .args .traded .count) (c .index-self-place .result) (omega arith) (c .in-rest .is);
-      last = refl }
+      last = refl;
+    }

@@ -11,4 +11,5 @@ pub returns : need.returns
 returns c =
     record {
       answer = sym (lt-ltb _ _ (omega arith));
-      after = add-listed (c .args .self .now .table) (c .args .self .now .filled) (c .count-count .ensures .whole) (c .count-count .result) (c .args .security) (c .count-count .ensures .held) (omega arith) }
+      after = add-listed (c .args .self .now .table) (c .args .self .now .filled) (c .count-count .ensures .whole) (c .count-count .result) (c .args .security) (c .count-count .ensures .held) (omega arith);
+    }

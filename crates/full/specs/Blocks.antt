@@ -1,0 +1,120 @@
+-- Registers that calls look at, and the blocks of orders.
+use mathlib.Core.Path.{_≡_}
+use mathlib.Core.Bool.{Bool, cond}
+use mathlib.Core.List.{List}
+use Prim.Native.Nat.{ℕ, _/_, _<_}
+use lib.Dec.{eqb}
+use lib.IntN.{ℤ, pos, _+ℤ_, _-ℤ_}
+use lib.ListN.{length}
+use lib.Signed.{leZ}
+use Rattle.std.specs.Finite.{nth}
+use Rattle.std.specs.declared.option.Option.{Option}
+use Rattle.std.specs.declared.option.Option.the-variants.{Some, None}
+use Rattle.std.specs.declared.result.Result.{Result}
+use Rattle.std.specs.declared.result.Result.the-variants.{Ok, Err}
+use Rattle.registers.specs.declared.row.Key.{Key}
+use Rattle.registers.specs.declared.row.Figures.{Figures}
+use Rattle.registers.specs.declared.row.Row.{Row}
+use Rattle.registers.specs.declared.fault.StoreFault.the-variants.{NotOpen, OutOfRange}
+use Rattle.registers.specs.Amounts.{moneyOf, riskOf}
+use Rattle.registers.specs.Registers.{inRange, Bounded}
+use Rattle.registers.specs.Stores.{placeFor, putRow}
+use Rattle.full.specs.declared.held.Held.{Held}
+use Rattle.full.specs.declared.order.Side.{Side}
+use Rattle.full.specs.declared.order.Side.the-variants.{Buy, Sell}
+use Rattle.full.specs.declared.order.Mode.{Mode}
+use Rattle.full.specs.declared.order.Mode.the-variants.{Full, Partial}
+use Rattle.full.specs.declared.refusal.Refusal.{Refusal}
+use Rattle.full.specs.declared.refusal.Refusal.the-variants.{Store, NotCovered, LeavesRange}
+use Rattle.full.specs.State.{Live}
+use Rattle.full.specs.Plans.{demand}
+
+-- the keys of an account's cash, of its holding of a security, and of its participant's limit
+abbrev pub cashKey : ℕ → Key
+cashKey code = record { kind = 1; code = code; security = 0 }
+
+abbrev pub holdingKey : ℕ → ℕ → Key
+holdingKey code security = record { kind = 2; code = code; security = security }
+
+abbrev pub participantKey : ℕ → Key
+participantKey code = record { kind = 3; code = code / 100; security = 0 }
+
+-- the register of an order's block
+abbrev pub blockKey : Mode → Side → ℕ → ℕ → Key
+blockKey Full Buy account security = cashKey account
+blockKey Full Sell account security = holdingKey account security
+blockKey Partial Buy account security = participantKey account
+blockKey Partial Sell account security = participantKey account
+
+-- the block of a quantity at a price, under a ratio
+abbrev pub blockUnits : Mode → Side → ℕ → ℕ → ℕ → ℕ
+blockUnits Full Buy q p k = moneyOf q p
+blockUnits Full Sell q p k = q
+blockUnits Partial Buy q p k = riskOf q p k
+blockUnits Partial Sell q p k = riskOf q p k
+
+-- a live order's register, and the block of its rest
+abbrev pub keyOf : Live → Key
+keyOf o = blockKey (o .mode) (o .side) (o .account) (o .security)
+
+abbrev pub unitsOf : Live → ℕ
+unitsOf o = blockUnits (o .mode) (o .side) (o .rest) (o .price) (o .ratio)
+
+-- an open register: its place and its figures
+abbrev pub heldIn : ℕ → Option Row → Result Held Refusal
+heldIn n None = Err (Store NotOpen)
+heldIn n (Some r) = Ok (record { place = n; figures = r .figures })
+
+abbrev pub heldFrom : List Row → Option ℕ → Result Held Refusal
+heldFrom rs None = Err (Store NotOpen)
+heldFrom rs (Some n) = heldIn n (nth rs n)
+
+unfoldable pub heldAt : List Row → Key → Result Held Refusal
+heldAt rs k = heldFrom rs (placeFor k rs)
+
+-- figures with another limit, and with another blocked figure
+abbrev pub withLimit : Figures → ℤ → Figures
+withLimit f z = record { limit = z; blocked = f .blocked; third = f .third }
+
+abbrev pub withBlocked : Figures → ℤ → Figures
+withBlocked f z = record { limit = f .limit; blocked = z; third = f .third }
+
+abbrev pub withFiguresOf : Held → Figures → Held
+withFiguresOf h f = record { place = h .place; figures = f }
+
+-- covered: the limit less the raised blocked figure leaves the floor, which is the reserve for cash
+-- and 0 elsewhere
+abbrev pub floorOf : ℕ → Key → ℕ
+floorOf reserve k = cond (eqb (k .kind) 1) reserve 0
+
+unfoldable pub covered : Figures → ℕ → ℕ → Bool
+covered f units floor = leZ (pos floor) (f .limit -ℤ (f .blocked +ℤ pos units))
+
+-- blocking units on a register
+unfoldable pub blockOn : Held → ℕ → ℕ → Result Held Refusal
+blockOn h units floor =
+    demand (inRange (h .figures)) (Store OutOfRange)
+    (demand (covered (h .figures) units floor) NotCovered
+    (Ok (withFiguresOf h (withBlocked (h .figures) (h .figures .blocked +ℤ pos units)))))
+
+-- releasing units on a register
+unfoldable pub releaseOn : Held → ℕ → Result Held Refusal
+releaseOn h units =
+    demand (inRange (h .figures)) (Store OutOfRange)
+    (demand (inRange (withBlocked (h .figures) (h .figures .blocked -ℤ pos units))) LeavesRange
+    (Ok (withFiguresOf h (withBlocked (h .figures) (h .figures .blocked -ℤ pos units)))))
+
+-- raising the limit of a register
+unfoldable pub creditOn : Held → ℕ → Result Held Refusal
+creditOn h units =
+    demand (inRange (h .figures)) (Store OutOfRange)
+    (demand (inRange (withLimit (h .figures) (h .figures .limit +ℤ pos units))) LeavesRange
+    (Ok (withFiguresOf h (withLimit (h .figures) (h .figures .limit +ℤ pos units)))))
+
+-- the rows once a register is put back
+abbrev pub putHeld : List Row → Held → List Row
+putHeld rs h = putRow rs (h .place) (h .figures)
+
+-- a figure that is raised stays so if it is confirmed, and else is as it was
+abbrev pub kept : Bool → ℤ → ℤ → ℤ
+kept confirmed raised old = cond confirmed raised old

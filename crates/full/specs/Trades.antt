@@ -1,0 +1,169 @@
+-- What a trade does: its checks in their order, the registers that it moves, and the state it leaves.
+use mathlib.Core.Path.{_≡_}
+use mathlib.Core.Bool.{Bool, true, false, _&&_, not}
+use mathlib.Core.List.{List}
+use Prim.Native.Nat.{ℕ}
+use lib.Dec.{eqb, leb, ltb}
+use lib.IntN.{ℤ, pos, _+ℤ_, _-ℤ_}
+use lib.ListN.{set, getD}
+use Rattle.std.specs.Finite.{nth}
+use Rattle.std.specs.Options.{mapped}
+use Rattle.std.specs.declared.option.Option.{Option}
+use Rattle.std.specs.declared.option.Option.the-variants.{Some, None}
+use Rattle.std.specs.declared.result.Result.{Result}
+use Rattle.std.specs.declared.result.Result.the-variants.{Ok, Err}
+use Rattle.registers.specs.declared.row.Figures.{Figures}
+use Rattle.registers.specs.declared.row.Row.{Row}
+use Rattle.registers.specs.declared.fault.StoreFault.the-variants.{OutOfRange}
+use Rattle.registers.specs.Amounts.{moneyOf}
+use Rattle.registers.specs.Registers.{inRange}
+use Rattle.registers.specs.Stores.{putRow}
+use Rattle.full.specs.declared.refusal.Refusal.{Refusal}
+use Rattle.full.specs.declared.refusal.Refusal.the-variants.{BadValue, TradeNumber, WrongSide, Mismatch, SameAccount, AboveRest, PriceOutside, LeavesRange, Store}
+use Rattle.full.specs.declared.order.Side.{Side}
+use Rattle.full.specs.declared.order.Side.the-variants.{Buy, Sell}
+use Rattle.full.specs.declared.order.Mode.{Mode}
+use Rattle.full.specs.declared.order.Mode.the-variants.{Full, Partial}
+use Rattle.full.specs.declared.moves.Move.{Move}
+use Rattle.full.specs.declared.moves.Moves.{Moves}
+use Rattle.full.specs.declared.moves.Four.{Four}
+use Rattle.full.specs.declared.moves.Pair.{Pair}
+use Rattle.full.specs.declared.held.Held.{Held}
+use Rattle.full.specs.declared.terms.Deal.{Deal}
+use Rattle.full.specs.State.{Live, lowered, liveOf}
+use Rattle.full.specs.Terms.{bargainOf}
+use Rattle.full.specs.Plans.{State, Plan, andThen, demand, orRefuse, withRows, withOrders, withLastTrade}
+use Rattle.full.specs.Blocks.{cashKey, holdingKey, heldAt}
+use Rattle.full.specs.Calls.{foundOf}
+
+abbrev pub isBuy : Side → Bool
+isBuy Buy = true
+isBuy Sell = false
+
+abbrev pub isFull : Mode → Bool
+isFull Full = true
+isFull Partial = false
+
+abbrev pub sameMode : Mode → Mode → Bool
+sameMode Full m = isFull m
+sameMode Partial m = not (isFull m)
+
+-- the two orders of a trade, their places, and its numbers
+pub record PairOf : Type 0 where
+  pub buyPlace : ℕ
+  pub sellPlace : ℕ
+  pub buy : Live
+  pub sell : Live
+  pub quantity : ℕ
+  pub price : ℕ
+
+abbrev pub pairAs : Pair → PairOf
+pairAs p = record { buyPlace = p .bought; sellPlace = p .sold; buy = liveOf (p .buy); sell = liveOf (p .sell); quantity = p .quantity .count; price = p .price .value }
+
+-- the checks on the two orders: 13, 14, 15, 16, 17
+unfoldable pub matchedOf : PairOf → Result PairOf Refusal
+matchedOf p =
+    demand (isBuy (p .buy .side) && not (isBuy (p .sell .side))) WrongSide
+    (demand (eqb (p .buy .security) (p .sell .security) && sameMode (p .buy .mode) (p .sell .mode)) Mismatch
+    (demand (not (eqb (p .buy .account) (p .sell .account))) SameAccount
+    (demand (leb (p .quantity) (p .buy .rest) && leb (p .quantity) (p .sell .rest)) AboveRest
+    (demand (leb (p .price) (p .buy .price) && leb (p .sell .price) (p .price)) PriceOutside
+    (Ok p)))))
+
+-- the checks of a trade up to the registers, for both modes: 5, 12, 11, and those on the orders
+unfoldable pub pairOf : List (Option Live) → ℕ → Deal → Result PairOf Refusal
+pairOf os last d =
+    andThen (orRefuse (bargainOf d) BadValue) (λ b.
+    demand (ltb last (d .number)) TradeNumber
+    (andThen (foundOf os (d .buy)) (λ x.
+    andThen (foundOf os (d .sell)) (λ y.
+    matchedOf (record { buyPlace = x .place; sellPlace = y .place; buy = x .order; sell = y .order; quantity = b .quantity; price = b .price })))))
+
+-- the four registers of a trade with full collateral: the buyer's cash, the seller's cash, the
+-- buyer's holding and the seller's; check 6 runs over all of them
+unfoldable pub fourOf : List Row → ℕ → ℕ → ℕ → Result Four Refusal
+fourOf rs buyer seller security =
+    andThen (heldAt rs (cashKey buyer)) (λ a.
+    andThen (heldAt rs (cashKey seller)) (λ b.
+    andThen (heldAt rs (holdingKey buyer security)) (λ c.
+    andThen (heldAt rs (holdingKey seller security)) (λ d.
+    Ok (record { payer = a; payee = b; taker = c; giver = d })))))
+
+-- where the four registers end: the buyer's blocked cash falls by the block of the quantity at the
+-- buy price, and money moves at the price of the trade
+unfoldable pub paidOf : Figures → ℕ → ℕ → Figures
+paidOf f value block = record { limit = f .limit -ℤ pos value; blocked = f .blocked -ℤ pos block; third = f .third }
+
+unfoldable pub raisedOf : Figures → ℕ → Figures
+raisedOf f units = record { limit = f .limit +ℤ pos units; blocked = f .blocked; third = f .third }
+
+abbrev pub moveTo : Held → Figures → Move
+moveTo h f = record { place = h .place; before = h .figures; after = f }
+
+abbrev pub movesOf : Four → ℕ → ℕ → ℕ → Moves
+movesOf r q value block =
+    record {
+      a = moveTo (r .payer) (paidOf (r .payer .figures) value block);
+      b = moveTo (r .payee) (raisedOf (r .payee .figures) value);
+      c = moveTo (r .taker) (raisedOf (r .taker .figures) q);
+      d = moveTo (r .giver) (paidOf (r .giver .figures) q q);
+    }
+
+-- a test of four figures
+abbrev pub allIn : Figures → Figures → Figures → Figures → Bool
+allIn a b c d = inRange a && (inRange b && (inRange c && inRange d))
+
+-- checks 25 and 26, each over all four
+unfoldable pub settleOf : Four → ℕ → ℕ → ℕ → Result Moves Refusal
+settleOf r q value block =
+    demand (allIn (r .payer .figures) (r .payee .figures) (r .taker .figures) (r .giver .figures)) (Store OutOfRange)
+    (demand (allIn (paidOf (r .payer .figures) value block) (raisedOf (r .payee .figures) value) (raisedOf (r .taker .figures) q) (paidOf (r .giver .figures) q q)) LeavesRange
+    (Ok (movesOf r q value block)))
+
+-- the rows once the moves are put
+abbrev pub moved : List Row → Move → List Row
+moved rs m = putRow rs (m .place) (m .after)
+
+abbrev pub movedAll : List Row → Moves → List Row
+movedAll rs m = moved (moved (moved (moved rs (m .a)) (m .b)) (m .c)) (m .d)
+
+-- an order's rest, lowered in its place
+abbrev pub lowerAt : List (Option Live) → ℕ → ℕ → List (Option Live)
+lowerAt os i q = set os i (lowered (getD os i None) q)
+
+-- trade: 5, 12, 11, 13, 14, 15, 16, 17, 6, 25, 26; answers the money. This level answers 5 to a pair
+-- of orders in partial mode, which its own announcements never make.
+unfoldable pub tradeOf : State → Deal → Result Plan Refusal
+tradeOf s d =
+    andThen (pairOf (s .orders) (s .lastTrade) d) (λ p.
+    demand (isFull (p .buy .mode)) BadValue
+    (andThen (fourOf (s .rows) (p .buy .account) (p .sell .account) (p .buy .security)) (λ r.
+    andThen (settleOf r (p .quantity) (moneyOf (p .quantity) (p .price)) (moneyOf (p .quantity) (p .buy .price))) (λ m.
+    Ok (record {
+      answer = pos (moneyOf (p .quantity) (p .price));
+      next = withLastTrade (withOrders (withRows s (movedAll (s .rows) m)) (lowerAt (lowerAt (s .orders) (p .buyPlace) (p .quantity)) (p .sellPlace) (p .quantity))) (d .number);
+    })))))
+
+-- moves whose places all differ, and whose figures before are those of the rows
+pub record Apart (m : Moves) : Type 0 where
+  pub ab : m .a .place ≡ m .b .place → ⊥
+  pub ac : m .a .place ≡ m .c .place → ⊥
+  pub ad : m .a .place ≡ m .d .place → ⊥
+  pub bc : m .b .place ≡ m .c .place → ⊥
+  pub bd : m .b .place ≡ m .d .place → ⊥
+  pub cd : m .c .place ≡ m .d .place → ⊥
+
+abbrev pub FiguresAt : List Row → ℕ → Figures → Type 0
+FiguresAt rs i f = mapped (λ r. r .figures) (nth rs i) ≡ Some f
+
+pub record Standing (rs : List Row) (m : Moves) : Type 0 where
+  pub a-at : FiguresAt rs (m .a .place) (m .a .before)
+  pub b-at : FiguresAt rs (m .b .place) (m .b .before)
+  pub c-at : FiguresAt rs (m .c .place) (m .c .before)
+  pub d-at : FiguresAt rs (m .d .place) (m .d .before)
+
+-- the same moves in another order
+pub record Reordered (m n : Moves) : Type 0 where
+  pub apart : Apart m → Apart n
+  pub standing : (rs : List Row) → Standing rs m → Standing rs n
+  pub same : (rs : List Row) → Apart m → movedAll rs n ≡ movedAll rs m

@@ -1,0 +1,14 @@
+//! The engine's parts.
+
+use crate::order::Book;
+use crate::security::Securities;
+
+/// The engine of Level One over a store. Its parts are public for the level above; who embeds it
+/// uses the calls.
+pub struct Engine<S> {
+    pub store: S,
+    pub reserve: u16,
+    pub securities: Securities,
+    pub book: Book,
+    pub trade: u32,
+}
