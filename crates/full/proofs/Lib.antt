@@ -1,3 +1,2 @@
-pub mod Tables
+pub mod Places
 pub mod Swaps
-pub mod Keys

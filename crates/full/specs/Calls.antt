@@ -1,30 +1,31 @@
 -- What each call does: its checks in their order, its answer, and the state that it leaves.
-use mathlib.Core.Bool.{Bool, true, false, cond, _&&_, _||_, not}
-use mathlib.Core.List.{List, [], _∷_, _++_}
-use Prim.Native.Nat.{ℕ, suc, _+_}
-use lib.Dec.{eqb, leb, ltb}
-use lib.IntN.{ℤ, pos}
-use lib.ListN.{length, set, getD}
+use mathlib.Core.Bool.{cond, _&&_, _||_, not}
+use mathlib.Core.List.{[], _∷_, _++_}
+use Prim.Native.Nat.{ℕ, _+_}
+use lib.Dec.{eqb, ltb}
+use lib.IntN.{pos}
+use lib.ListN.{length, set}
 use Rattle.std.specs.Options.{isSome}
 use Rattle.std.specs.declared.option.Option.{Option}
 use Rattle.std.specs.declared.option.Option.the-variants.{Some, None}
 use Rattle.std.specs.declared.result.Result.{Result}
-use Rattle.std.specs.declared.result.Result.the-variants.{Ok, Err}
+use Rattle.std.specs.declared.result.Result.the-variants.{Ok}
 use Rattle.registers.specs.declared.row.Key.{Key}
 use Rattle.registers.specs.declared.row.Row.{Row}
 use Rattle.registers.specs.declared.fault.StoreFault.the-variants as faults
 use Rattle.registers.specs.Stores.{placeFor}
-use Rattle.full.specs.declared.refusal.Refusal.{Refusal}
-use Rattle.full.specs.declared.refusal.Refusal.the-variants.{RegisterOpen, SecurityAdmitted, SecuritiesFull, BadValue, NotAdmitted, OrderNumber, OrdersFull, NoOrder, Store}
+use Rattle.orders.specs.declared.refusal.Refusal.{Refusal}
+use Rattle.orders.specs.declared.refusal.Refusal.the-variants.{RegisterOpen, SecurityAdmitted, SecuritiesFull, BadValue, NotAdmitted, Store}
 use Rattle.full.specs.declared.held.Held.{Held}
-use Rattle.full.specs.declared.order.Mode.{Mode}
-use Rattle.full.specs.declared.order.Mode.the-variants.{Full, Partial}
-use Rattle.full.specs.declared.terms.Announcement.{Announcement}
-use Rattle.full.specs.declared.terms.Opening.{Opening}
-use Rattle.full.specs.State.{Live, Admitted, admittedAs, placeOfOrder, freePlace}
-use Rattle.full.specs.Terms.{between, codeOk, securityOk, amountOk, limitOk, TermsOf, termsOf}
-use Rattle.full.specs.Plans.{State, Plan, andThen, demand, orRefuse, withRows, withSecurities, withOrders, withLastOrder}
-use Rattle.full.specs.Blocks.{cashKey, holdingKey, blockKey, blockUnits, keyOf, unitsOf, heldAt, blockOn, releaseOn, creditOn, putHeld, floorOf}
+use Rattle.orders.specs.declared.terms.Announcement.{Announcement}
+use Rattle.orders.specs.declared.terms.Opening.{Opening}
+use Rattle.orders.specs.State.{Live, admittedAs}
+use Rattle.orders.specs.Terms.{between, codeOk, securityOk, amountOk, limitOk}
+use Rattle.full.specs.Plans.{State, Plan, withRows, withSecurities, withOrders, withLastOrder}
+use Rattle.orders.specs.Checks.{readyOf, foundOf}
+use Rattle.orders.specs.Steps.{andThen, demand, orRefuse}
+use Rattle.full.specs.Blocks.{heldAt, blockOn, releaseOn, creditOn, putHeld, floorOf}
+use Rattle.orders.specs.Blocks.{cashKey, holdingKey, keyOf, unitsOf}
 
 -- admit: 5, 3, 4; answers the count of securities
 unfoldable pub admitOf : State → ℕ → ℕ → Result Plan Refusal
@@ -73,23 +74,6 @@ creditOf s code security amount =
     andThen (creditOn h amount) (λ c.
     Ok (record { answer = c .figures .limit; next = withRows s (putHeld (s .rows) c) }))))
 
--- an order that is ready to be announced: the place that it takes, and the order
-pub record ReadyOf : Type 0 where
-  pub place : ℕ
-  pub order : Live
-
-abbrev pub announced : Announcement → TermsOf → ℕ → Live
-announced a t k = record { number = a .number; side = a .side; mode = t .mode; account = a .account; security = a .security; price = t .price; ratio = k; rest = t .quantity }
-
--- the checks of an announcement up to the registers, for both modes: 5, 8, 7, 9
-unfoldable pub readyOf : List Admitted → List (Option Live) → ℕ → Announcement → Result ReadyOf Refusal
-readyOf ss os last a =
-    andThen (orRefuse (termsOf a) BadValue) (λ t.
-    demand (ltb last (a .number)) OrderNumber
-    (andThen (orRefuse (admittedAs ss (a .security)) NotAdmitted) (λ k.
-    andThen (orRefuse (freePlace os) OrdersFull) (λ i.
-    Ok (record { place = i; order = announced a t k })))))
-
 -- the register that covers an order with full collateral, of the account's two
 abbrev pub coverOf : Live → Held → Held → Held
 coverOf o cash holding = cond (eqb (keyOf o .kind) 1) cash holding
@@ -106,22 +90,6 @@ announceOf s a =
       answer = pos (unitsOf (r .order));
       next = withLastOrder (withOrders (withRows s (putHeld (s .rows) b)) (set (s .orders) (r .place) (Some (r .order)))) (r .order .number);
     }))))))
-
--- a live order and its place
-pub record FoundOf : Type 0 where
-  pub place : ℕ
-  pub order : Live
-
-abbrev pub foundIn : ℕ → Option Live → Result FoundOf Refusal
-foundIn i None = Err NoOrder
-foundIn i (Some o) = Ok (record { place = i; order = o })
-
-abbrev pub foundFrom : List (Option Live) → Option ℕ → Result FoundOf Refusal
-foundFrom os None = Err NoOrder
-foundFrom os (Some i) = foundIn i (getD os i None)
-
-unfoldable pub foundOf : List (Option Live) → ℕ → Result FoundOf Refusal
-foundOf os n = foundFrom os (placeOfOrder n os)
 
 -- withdraw: 11, 6, 25, 26; answers the amount released
 unfoldable pub withdrawOf : State → ℕ → Result Plan Refusal

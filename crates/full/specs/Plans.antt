@@ -9,9 +9,9 @@ use Rattle.std.specs.declared.option.Option.the-variants.{Some, None}
 use Rattle.std.specs.declared.result.Result.{Result}
 use Rattle.std.specs.declared.result.Result.the-variants.{Ok, Err}
 use Rattle.registers.specs.declared.row.Row.{Row}
-use Rattle.full.specs.declared.refusal.Refusal.{Refusal}
+use Rattle.orders.specs.declared.refusal.Refusal.{Refusal}
 use Rattle.full.specs.declared.engine.Engine.{Engine}
-use Rattle.full.specs.State.{Live, Admitted, slotsOf, listOf}
+use Rattle.orders.specs.State.{Live, Admitted, slotsOf, listOf}
 
 -- what the rules speak of: the store's rows and room, the reserve, the admitted securities, the
 -- places of the order book, and the numbers of the last order and the last trade
@@ -47,19 +47,6 @@ pub record Plan : Type 0 where
   pub answer : ℤ
   pub next : State
 
--- one step and then another, a check that has to hold, and a value that has to be there
-abbrev pub andThen : {X Y : Type 0} → Result X Refusal → (X → Result Y Refusal) → Result Y Refusal
-andThen (Err e) k = Err e
-andThen (Ok x) k = k x
-
-abbrev pub demand : {Y : Type 0} → Bool → Refusal → Result Y Refusal → Result Y Refusal
-demand true e rest = rest
-demand false e rest = Err e
-
-abbrev pub orRefuse : {X : Type 0} → Option X → Refusal → Result X Refusal
-orRefuse None e = Err e
-orRefuse (Some x) e = Ok x
-
 -- a plan's answer, and the state that it leaves: a refusal leaves it as it stood
 abbrev pub answerOf : Result Plan Refusal → Result ℤ Refusal
 answerOf (Ok p) = Ok (p .answer)
@@ -73,8 +60,3 @@ leftBy s (Err e) = s
 pub record Done (plan : Result Plan Refusal) (before after : State) (r : Result ℤ Refusal) : Type 0 where
   pub answer : r ≡ answerOf plan
   pub left : after ≡ leftBy before plan
-
--- the value of an Ok, seen by a function
-abbrev pub okAs : {X Y : Type 0} → (X → Y) → Result X Refusal → Result Y Refusal
-okAs f (Ok x) = Ok (f x)
-okAs f (Err e) = Err e

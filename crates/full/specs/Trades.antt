@@ -18,66 +18,24 @@ use Rattle.registers.specs.declared.fault.StoreFault.the-variants.{OutOfRange}
 use Rattle.registers.specs.Amounts.{moneyOf}
 use Rattle.registers.specs.Registers.{inRange}
 use Rattle.registers.specs.Stores.{putRow}
-use Rattle.full.specs.declared.refusal.Refusal.{Refusal}
-use Rattle.full.specs.declared.refusal.Refusal.the-variants.{BadValue, TradeNumber, WrongSide, Mismatch, SameAccount, AboveRest, PriceOutside, LeavesRange, Store}
-use Rattle.full.specs.declared.order.Side.{Side}
-use Rattle.full.specs.declared.order.Side.the-variants.{Buy, Sell}
-use Rattle.full.specs.declared.order.Mode.{Mode}
-use Rattle.full.specs.declared.order.Mode.the-variants.{Full, Partial}
+use Rattle.orders.specs.declared.refusal.Refusal.{Refusal}
+use Rattle.orders.specs.declared.refusal.Refusal.the-variants.{BadValue, TradeNumber, WrongSide, Mismatch, SameAccount, AboveRest, PriceOutside, LeavesRange, Store}
+use Rattle.orders.specs.declared.order.Side.{Side}
+use Rattle.orders.specs.declared.order.Side.the-variants.{Buy, Sell}
+use Rattle.orders.specs.declared.order.Mode.{Mode}
+use Rattle.orders.specs.declared.order.Mode.the-variants.{Full, Partial}
 use Rattle.full.specs.declared.moves.Move.{Move}
 use Rattle.full.specs.declared.moves.Moves.{Moves}
 use Rattle.full.specs.declared.moves.Four.{Four}
-use Rattle.full.specs.declared.moves.Pair.{Pair}
 use Rattle.full.specs.declared.held.Held.{Held}
-use Rattle.full.specs.declared.terms.Deal.{Deal}
-use Rattle.full.specs.State.{Live, lowered, liveOf}
-use Rattle.full.specs.Terms.{bargainOf}
-use Rattle.full.specs.Plans.{State, Plan, andThen, demand, orRefuse, withRows, withOrders, withLastTrade}
-use Rattle.full.specs.Blocks.{cashKey, holdingKey, heldAt}
-use Rattle.full.specs.Calls.{foundOf}
-
-abbrev pub isBuy : Side → Bool
-isBuy Buy = true
-isBuy Sell = false
-
-abbrev pub isFull : Mode → Bool
-isFull Full = true
-isFull Partial = false
-
-abbrev pub sameMode : Mode → Mode → Bool
-sameMode Full m = isFull m
-sameMode Partial m = not (isFull m)
-
--- the two orders of a trade, their places, and its numbers
-pub record PairOf : Type 0 where
-  pub buyPlace : ℕ
-  pub sellPlace : ℕ
-  pub buy : Live
-  pub sell : Live
-  pub quantity : ℕ
-  pub price : ℕ
-
-abbrev pub pairAs : Pair → PairOf
-pairAs p = record { buyPlace = p .bought; sellPlace = p .sold; buy = liveOf (p .buy); sell = liveOf (p .sell); quantity = p .quantity .count; price = p .price .value }
-
--- the checks on the two orders: 13, 14, 15, 16, 17
-unfoldable pub matchedOf : PairOf → Result PairOf Refusal
-matchedOf p =
-    demand (isBuy (p .buy .side) && not (isBuy (p .sell .side))) WrongSide
-    (demand (eqb (p .buy .security) (p .sell .security) && sameMode (p .buy .mode) (p .sell .mode)) Mismatch
-    (demand (not (eqb (p .buy .account) (p .sell .account))) SameAccount
-    (demand (leb (p .quantity) (p .buy .rest) && leb (p .quantity) (p .sell .rest)) AboveRest
-    (demand (leb (p .price) (p .buy .price) && leb (p .sell .price) (p .price)) PriceOutside
-    (Ok p)))))
-
--- the checks of a trade up to the registers, for both modes: 5, 12, 11, and those on the orders
-unfoldable pub pairOf : List (Option Live) → ℕ → Deal → Result PairOf Refusal
-pairOf os last d =
-    andThen (orRefuse (bargainOf d) BadValue) (λ b.
-    demand (ltb last (d .number)) TradeNumber
-    (andThen (foundOf os (d .buy)) (λ x.
-    andThen (foundOf os (d .sell)) (λ y.
-    matchedOf (record { buyPlace = x .place; sellPlace = y .place; buy = x .order; sell = y .order; quantity = b .quantity; price = b .price })))))
+use Rattle.orders.specs.declared.terms.Deal.{Deal}
+use Rattle.orders.specs.State.{Live, lowered, liveOf}
+use Rattle.orders.specs.Terms.{bargainOf}
+use Rattle.full.specs.Plans.{State, Plan, withRows, withOrders, withLastTrade}
+use Rattle.orders.specs.Steps.{andThen, demand, orRefuse}
+use Rattle.full.specs.Blocks.{heldAt}
+use Rattle.orders.specs.Blocks.{cashKey, holdingKey}
+use Rattle.orders.specs.Checks.{isFull, pairOf}
 
 -- the four registers of a trade with full collateral: the buyer's cash, the seller's cash, the
 -- buyer's holding and the seller's; check 6 runs over all of them

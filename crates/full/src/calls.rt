@@ -6,34 +6,30 @@ ghost use lib.ListN.{replicate};
 ghost use Prim.Native.Nat.{_≤_};
 ghost use Rattle.std.specs.Options.{Cases as BySome};
 ghost use Rattle.std.specs.declared.option.Option.the-variants.{None};
-ghost use Rattle.full.specs.State.{liveOf, slotsOf, listOf};
-ghost use Rattle.full.specs.Plans.{stateOf, Done, okAs};
-ghost use Rattle.full.specs.Calls.{admitOf, openingKey, openOf, assetKey, creditOf, readyOf, announceOf, foundOf, withdrawOf};
-ghost use Rattle.full.specs.Views.{readyAs, foundAs};
-use crate::blocks::cash_key;
-use crate::blocks::floor;
-use crate::blocks::holding_key;
+ghost use Rattle.orders.specs.State.{slotsOf, listOf};
+ghost use Rattle.full.specs.Plans.{stateOf, Done};
+ghost use Rattle.full.specs.Calls.{admitOf, openingKey, openOf, assetKey, creditOf, announceOf, withdrawOf};
 use crate::engine::Engine;
-use crate::found::Found;
-use crate::found::Ready;
-use crate::order::Book;
-use crate::order::Order;
-use crate::ranges::amount as amount_of;
-use crate::ranges::code_ok;
-use crate::ranges::limit_ok;
-use crate::ranges::security_ok;
-use crate::ranges::terms;
-use crate::refusal::Refusal;
-use crate::refusal::RefusalFromStore;
+use crate::keys::cash_key;
+use crate::keys::floor;
+use crate::keys::holding_key;
 use crate::registers_of::block_on;
 use crate::registers_of::credit_on;
 use crate::registers_of::held;
 use crate::registers_of::put_held;
 use crate::registers_of::release_on;
-use crate::security::Securities;
-use crate::security::Security;
-use crate::terms::Announcement;
-use crate::terms::Opening;
+use orders::checks::ready;
+use orders::order::Book;
+use orders::ranges::amount as amount_of;
+use orders::ranges::code_ok;
+use orders::ranges::limit_ok;
+use orders::ranges::security_ok;
+use orders::refusal::Refusal;
+use orders::refusal::RefusalFromStore;
+use orders::security::Securities;
+use orders::security::Security;
+use orders::terms::Announcement;
+use orders::terms::Opening;
 use registers::ranges::Ratio;
 use registers::row::Figures;
 use registers::row::Key;
@@ -63,53 +59,6 @@ fn asset_key(code: u32, security: u16) -> Key
         cash_key(code)
     } else {
         holding_key(code, security)
-    }
-}
-
-/// The checks of an announcement up to the registers, for both modes. Refuses values outside their
-/// ranges (5), a number not above the last (8), a security that is not admitted (7) and a full
-/// book (9).
-pub fn ready(securities: &Securities, book: &Book, a: Announcement) -> Result<Ready, Refusal>
-    ensures { λ r. ⌜ okAs readyAs r ≡ readyOf (listOf (now (securities .entry))) (slotsOf (now (book .entry))) (now (book .entry) .last) a ⌝ }
-{
-    let Some(terms) = terms(a) else {
-        return Err(Refusal::BadValue);
-    };
-    if a.number <= book.last {
-        return Err(Refusal::OrderNumber);
-    }
-    let Some(ratio) = securities.ratio(a.security) else {
-        return Err(Refusal::NotAdmitted);
-    };
-    let Some(place) = book.free_place() else {
-        return Err(Refusal::OrdersFull);
-    };
-    let order = Order {
-        number: a.number,
-        side: a.side,
-        mode: terms.mode,
-        account: a.account,
-        security: a.security,
-        price: terms.price,
-        ratio,
-        rest: terms.quantity,
-    };
-    Ok(Ready { place, order })
-}
-
-impl Book {
-    /// The live order of a number and its place. Refuses (11) where there is none.
-    pub fn found(&self, number: u32) -> Result<Found, Refusal>
-        ensures { λ r. ⌜ okAs foundAs r ≡ foundOf (slotsOf (now (self .entry))) number ⌝ }
-    {
-        let Some(place) = self.place_of(number) else {
-            return Err(Refusal::NoOrder);
-        };
-        let slot = &self.orders[place];
-        let Some(order) = *slot else {
-            return Err(Refusal::NoOrder);
-        };
-        Ok(Found { place, order })
     }
 }
 

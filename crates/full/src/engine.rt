@@ -1,7 +1,7 @@
 //! The engine's parts.
 
-use crate::order::Book;
-use crate::security::Securities;
+use orders::order::Book;
+use orders::security::Securities;
 
 /// The engine of Level One over a store. Its parts are public for the level above; who embeds it
 /// uses the calls.

@@ -1,9 +1,6 @@
 //! What a trade moves.
 
 use crate::held::Held;
-use crate::order::Order;
-use registers::ranges::Price;
-use registers::ranges::Quantity;
 use registers::row::Figures;
 
 /// A register that a call moves: its place, its figures before, and where they end.
@@ -31,15 +28,4 @@ pub struct Four {
     pub payee: Held,
     pub taker: Held,
     pub giver: Held,
-}
-
-/// The two orders of a trade and the places of the buy and the sell, with quantity and price.
-#[derive(Clone, Copy)]
-pub struct Pair {
-    pub bought: usize,
-    pub sold: usize,
-    pub buy: Order,
-    pub sell: Order,
-    pub quantity: Quantity,
-    pub price: Price,
 }

@@ -12,8 +12,8 @@ ghost use Rattle.registers.specs.Registers.{Within};
 ghost use Rattle.full.specs.Blocks.{heldAt, putHeld, blockOn, releaseOn, creditOn, kept};
 use crate::held::Cover;
 use crate::held::Held;
-use crate::refusal::Refusal;
-use crate::refusal::RefusalFromStore;
+use orders::refusal::Refusal;
+use orders::refusal::RefusalFromStore;
 use registers::fault::StoreFault;
 use registers::ranges::Amount;
 use registers::row::Figures;
@@ -177,7 +177,7 @@ pub fn release_on(held: Held, amount: Amount) -> Result<Held, Refusal>
 
 /// Raises a register's limit by an amount. Refuses (25) figures out of range, and (26) where they
 /// would leave it.
-pub fn credit_on(held: Held, amount: Amount) -> Result<Held, Refusal>
+pub(crate) fn credit_on(held: Held, amount: Amount) -> Result<Held, Refusal>
     ensures { λ r. ⌜ r ≡ creditOn held (amount .units) ⌝ }
 {
     let Figures {

@@ -2,28 +2,24 @@
 
 ghost use mathlib.Core.Path.{_≡_};
 ghost use mathlib.Core.Bool.{true};
-ghost use Prim.Native.Nat.{_≤_};
 ghost use Rattle.std.specs.Vec.{made};
 ghost use Rattle.registers.specs.Registers.{Bounded};
-ghost use Rattle.full.specs.State.{slotsOf};
-ghost use Rattle.full.specs.Plans.{stateOf, Done, okAs};
-ghost use Rattle.full.specs.Trades.{allIn, matchedOf, pairOf, pairAs, fourOf, paidOf, raisedOf, moveTo, settleOf, tradeOf, isBuy, isFull, sameMode, movesOf};
-use crate::blocks::cash_key;
-use crate::blocks::holding_key;
+ghost use Rattle.full.specs.Plans.{stateOf, Done};
+ghost use Rattle.full.specs.Trades.{allIn, fourOf, paidOf, raisedOf, moveTo, settleOf, tradeOf, movesOf};
+ghost use Rattle.orders.specs.Checks.{isFull};
 use crate::engine::Engine;
 use crate::held::Held;
+use crate::keys::cash_key;
+use crate::keys::holding_key;
 use crate::moves::Four;
 use crate::moves::Move;
 use crate::moves::Moves;
-use crate::moves::Pair;
-use crate::order::Book;
-use crate::order::Mode;
-use crate::order::Side;
 use crate::ordering::put_moves;
-use crate::ranges::bargain;
-use crate::refusal::Refusal;
 use crate::registers_of::held;
-use crate::terms::Deal;
+use orders::checks::pair;
+use orders::order::Mode;
+use orders::refusal::Refusal;
+use orders::terms::Deal;
 use registers::amounts::money;
 use registers::fault::StoreFault;
 use registers::ranges::Amount;
@@ -31,90 +27,17 @@ use registers::ranges::Quantity;
 use registers::row::Figures;
 use registers::store::Store;
 
-impl Side {
-    fn is_buy(self) -> bool
-        ensures { λ r. ⌜ r ≡ isBuy self ⌝ }
-    {
-        match self {
-            Side::Buy => true,
-            Side::Sell => false,
-        }
-    }
-}
-
-impl Mode {
-    fn is_full(self) -> bool
-        ensures { λ r. ⌜ r ≡ isFull self ⌝ }
-    {
-        match self {
-            Mode::Full => true,
-            Mode::Partial => false,
-        }
-    }
-
-    fn is_same(self, other: Mode) -> bool
-        ensures { λ r. ⌜ r ≡ sameMode self other ⌝ }
-    {
-        match (self, other) {
-            (Mode::Full, Mode::Full) => true,
-            (Mode::Partial, Mode::Partial) => true,
-            (Mode::Full, Mode::Partial) => false,
-            (Mode::Partial, Mode::Full) => false,
-        }
-    }
-}
-
-/// The checks of a trade up to the registers, for both modes. Refuses values outside their ranges
-/// (5), a number not above the last (12), an order that is not live (11), a first order that is no buy
-/// or a second that is no sell (13), another security or mode (14), one account (15), a quantity above
-/// a rest (16), and a price above the buy price or below the sell price (17).
-pub fn pair(book: &Book, last: u32, d: Deal) -> Result<Pair, Refusal>
-    ensures answer { λ r. ⌜ okAs pairAs r ≡ pairOf (slotsOf (now (book .entry))) last d ⌝ }
-    ensures apart { λ r. ⌜ made r (λ p. p .buy .account ≡ p .sell .account → ⊥) ⌝ }
+fn is_full(mode: Mode) -> bool
+    ensures { λ r. ⌜ r ≡ isFull mode ⌝ }
 {
-    let Some(bargain) = bargain(d) else {
-        return Err(Refusal::BadValue);
-    };
-    if d.number <= last {
-        return Err(Refusal::TradeNumber);
+    match mode {
+        Mode::Full => true,
+        Mode::Partial => false,
     }
-    let buy = book.found(d.buy)?;
-    let sell = book.found(d.sell)?;
-    let pair = Pair {
-        bought: buy.place,
-        sold: sell.place,
-        buy: buy.order,
-        sell: sell.order,
-        quantity: bargain.quantity,
-        price: bargain.price,
-    };
-    matched(pair)
-}
-
-fn matched(p: Pair) -> Result<Pair, Refusal>
-    ensures answer { λ r. ⌜ okAs pairAs r ≡ matchedOf (pairAs p) ⌝ }
-    ensures apart { λ r. ⌜ made r (λ p. p .buy .account ≡ p .sell .account → ⊥) ⌝ }
-{
-    if !p.buy.side.is_buy() || p.sell.side.is_buy() {
-        return Err(Refusal::WrongSide);
-    }
-    if p.buy.security != p.sell.security || !p.buy.mode.is_same(p.sell.mode) {
-        return Err(Refusal::Mismatch);
-    }
-    if p.buy.account == p.sell.account {
-        return Err(Refusal::SameAccount);
-    }
-    if p.quantity.count > p.buy.rest.count || p.quantity.count > p.sell.rest.count {
-        return Err(Refusal::AboveRest);
-    }
-    if p.price.value > p.buy.price.value || p.price.value < p.sell.price.value {
-        return Err(Refusal::PriceOutside);
-    }
-    Ok(p)
 }
 
 /// The four registers of a trade with full collateral. Refuses (6) where one is not open.
-pub fn four<S: Store>(
+pub(crate) fn four<S: Store>(
     store: &mut S,
     buyer: u32,
     seller: u32,
@@ -177,7 +100,12 @@ fn move_to(held: Held, after: Figures) -> Move
 
 /// Where the four registers of a trade end. Refuses figures out of range (25), and figures that would
 /// leave it (26), each over all four.
-pub fn settle(r: Four, quantity: Quantity, value: Amount, block: Amount) -> Result<Moves, Refusal>
+pub(crate) fn settle(
+    r: Four,
+    quantity: Quantity,
+    value: Amount,
+    block: Amount,
+) -> Result<Moves, Refusal>
     ensures answer { λ x. ⌜ x ≡ settleOf r (quantity .count) (value .units) (block .units) ⌝ }
     ensures moves { λ x. ⌜ made x (λ m. m ≡ movesOf r (quantity .count) (value .units) (block .units)) ⌝ }
 {
@@ -217,7 +145,7 @@ impl<S: Store> Engine<S> {
         ensures { λ r. ⌜ Done (tradeOf (stateOf (S·Store .rows) (S·Store .capacity) (now (self .entry))) d) (stateOf (S·Store .rows) (S·Store .capacity) (now (self .entry))) (stateOf (S·Store .rows) (S·Store .capacity) (now (self .exit))) r ⌝ }
     {
         let pair = pair(&self.book, self.trade, d)?;
-        if !pair.buy.mode.is_full() {
+        if !is_full(pair.buy.mode) {
             return Err(Refusal::BadValue);
         }
         let four = four(

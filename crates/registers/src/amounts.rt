@@ -45,18 +45,6 @@ impl Ratio {
     }
 }
 
-impl Amount {
-    /// The amount of `units` kopecks or securities, or `None` above 10^16.
-    pub fn new(units: u64) -> Option<Amount>
-        ensures { λ r. ⌜ mapped (λ a. a .units) r ≡ ranged 0 10000000000000000 units ⌝ }
-    {
-        if units > 10_000_000_000_000_000 {
-            return None;
-        }
-        Some(Amount { units })
-    }
-}
-
 /// The kopecks that `quantity` costs at `price`: their product by 100, rounded once, a half upwards.
 pub fn money(quantity: Quantity, price: Price) -> Amount
     ensures value { λ r. ⌜ r .units ≡ moneyOf (quantity .count) (price .value) ⌝ }

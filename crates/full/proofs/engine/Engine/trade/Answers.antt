@@ -1,6 +1,6 @@
 use borrow.Author.Needs.{needs}
 use Rattle.full.specs.Trades.{tradeOf}
-use Rattle.full.proofs.Keys.{four-ready}
+use Rattle.full.proofs.Places.{four-ready}
 use Rattle.full.proofs.engine.Engine.trade.Needs as need
 
 pub put-moves-requires : need.put-moves-requires
