@@ -4,6 +4,7 @@ use mathlib.Core.Bool.{Bool, true, false, cond}
 use mathlib.Core.List.{List, [], _∷_, _++_, map}
 use Prim.Native.Nat.{ℕ, zero, suc, _+_, _<_, _≤_, min}
 use native.Mathlib.Omega.{arith}
+use lib.Dec.{eqb}
 use lib.ListN.{length, take, set, getD, length-take, length-map}
 use Rattle.std.proofs.shelf.Lists.{map-set, map-push, set-past, take-more-set, getD-take, getD-default, set-getD, getD-map}
 use Rattle.std.proofs.shelf.Maps.{nth-getD}
@@ -14,7 +15,10 @@ use Rattle.std.specs.declared.option.Option.the-variants.{Some, None}
 use Rattle.seek.specs.Place.{placeOf, onBy}
 use Rattle.orders.specs.declared.order.Order.{Order}
 use Rattle.orders.specs.declared.security.Security.{Security}
-use Rattle.orders.specs.State.{Live, Admitted, slotOf, liveOf, lowered, admittedOf, ratioAt}
+use Rattle.std.specs.declared.result.Result.the-variants.{Ok, Err}
+use Rattle.orders.specs.declared.refusal.Refusal.the-variants.{NoOrder}
+use Rattle.orders.specs.State.{Live, Admitted, slotOf, liveOf, lowered, admittedOf, ratioAt, admittedAs, placeOfOrder}
+use Rattle.orders.specs.Checks.{foundIn, foundFrom}
 
 -- a search sees what a table holds
 pub placeOf-map : {X Y : Type 0} (f : X → Y) (p : Y → Bool) (xs : List X) → placeOf p (map f xs) ≡ placeOf (λ x. p (f x)) xs
@@ -80,3 +84,24 @@ module _ (t : List Security) (filled : ℕ) (long : length t ≡ 64) where
 -- what was read at a place of the book
 pub slot-is : (os : List (Option Order)) (i : ℕ) (d x : Option Order) → i < length os → getD os i d ≡ x → slotOf x ≡ getD (map slotOf os) i None
 slot-is os i d x h e = sym (getD-slots os i ∙ ap slotOf (getD-default os i None d h ∙ e))
+
+-- a live order, found by its number
+module _ (os : List (Option Order)) (n i : ℕ) (d : Option Order) (h : i < length os) (at : Some i ≡ placeOfOrder n (map slotOf os)) where
+  pub found-none : getD os i d ≡ None → Err NoOrder ≡ foundFrom (map slotOf os) (placeOfOrder n (map slotOf os))
+  found-none e = ap (foundIn i) (slot-is os i d None h e) ∙ ap (foundFrom (map slotOf os)) at
+
+  pub found-some : (o : Order) → getD os i d ≡ Some o → Ok (record { place = i; order = liveOf o }) ≡ foundFrom (map slotOf os) (placeOfOrder n (map slotOf os))
+  found-some o e = ap (foundIn i) (slot-is os i d (Some o) h e) ∙ ap (foundFrom (map slotOf os)) at
+
+-- what a search in the first k of the table found is what stands in the list
+module _ (t : List Security) (n filled k : ℕ) (whole : length t ≡ 64) (held : k ≡ min filled 64) where
+  same-place : (o : Option ℕ) → o ≡ placeOf (λ (s : Security). eqb (s .number) n) (take k t) → o ≡ placeOf (λ (a : Admitted). eqb (a .number) n) (map admittedOf (take (min filled 64) t))
+  same-place o e = e ∙ ap (λ (j : ℕ). placeOf (λ (s : Security). eqb (s .number) n) (take j t)) held ∙ sym (placeOf-map admittedOf (λ a. eqb (a .number) n) (take (min filled 64) t))
+
+  pub ratio-absent : None ≡ placeOf (λ (s : Security). eqb (s .number) n) (take k t) → None ≡ admittedAs (map admittedOf (take (min filled 64) t)) n
+  ratio-absent e = ap (ratioAt (map admittedOf (take (min filled 64) t))) (same-place None e)
+
+  pub ratio-found : (i : ℕ) (d : Security) → Some i ≡ placeOf (λ (s : Security). eqb (s .number) n) (take k t) → i < length (take k t) → Some (getD t i d .ratio .value) ≡ admittedAs (map admittedOf (take (min filled 64) t)) n
+  ratio-found i d e l =
+      ratio-listed t filled whole i d (omega (arith, length-take k t))
+      ∙ ap (ratioAt (map admittedOf (take (min filled 64) t))) (same-place (Some i) e)

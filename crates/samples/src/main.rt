@@ -2,6 +2,7 @@
 
 mod amounts;
 mod damage;
+mod engine;
 mod examples;
 mod stores;
 
@@ -11,5 +12,6 @@ fn main(rt: LibcRuntime) -> io::Result<()> {
     examples::examples_hold();
     amounts::show(&rt)?;
     stores::show(&rt)?;
-    damage::show(&rt)
+    damage::show(&rt)?;
+    engine::show(&rt)
 }

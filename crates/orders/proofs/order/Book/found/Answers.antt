@@ -1,8 +1,6 @@
 use borrow.Author.Needs.{needs}
-use mathlib.Core.Path.{_∙_, ap}
-use Rattle.orders.specs.State.{slotsOf}
-use Rattle.orders.specs.Checks.{foundOf, foundFrom, foundIn}
-use Rattle.orders.proofs.Tables.{slot-is}
+use Rattle.orders.specs.Checks.{foundOf}
+use Rattle.orders.proofs.Tables.{found-none, found-some}
 use Rattle.orders.proofs.order.Book.found.Needs as need
 
 pub returns-in-rest : need.returns-in-rest
@@ -12,11 +10,9 @@ returns-in-rest c = search needs
 pub returns-in-rest-slot : need.returns-in-rest-slot
 unfolding foundOf
 returns-in-rest-slot c =
-    ap (foundIn (c .in-Some .place)) (slot-is (c .args .self .now .orders) (c .in-Some .place) _ _ (c .in-Some .ensures tt .inside) (c .in-rest-slot .is))
-    ∙ ap (foundFrom (slotsOf (c .args .self .now))) (c .in-Some .ensures tt .place)
+    found-none (c .args .self .now .orders) (c .args .number) (c .in-Some .place) (c .index-self-place .result) (c .in-Some .ensures tt .inside) (c .in-Some .ensures tt .place) (c .in-rest-slot .is)
 
 pub returns : need.returns
 unfolding foundOf
 returns c =
-    ap (foundIn (c .in-Some .place)) (slot-is (c .args .self .now .orders) (c .in-Some .place) _ _ (c .in-Some .ensures tt .inside) (c .in-Some-slot .is))
-    ∙ ap (foundFrom (slotsOf (c .args .self .now))) (c .in-Some .ensures tt .place)
+    found-some (c .args .self .now .orders) (c .args .number) (c .in-Some .place) (c .index-self-place .result) (c .in-Some .ensures tt .inside) (c .in-Some .ensures tt .place) (c .in-Some-slot .order) (c .in-Some-slot .is)
