@@ -16,7 +16,7 @@ use Rattle.std.proofs.shelf.Digits.{number-push}
 use Rattle.std.proofs.shelf.Bits.{div-below, div-add-mod', div-mul-add, mod-mul-add}
 use Rattle.std.specs.shelf.Digits.{Under}
 use Rattle.std.specs.declared.option.Option.the-variants.{Some, None}
-use Rattle.bytes.specs.Fields.{be, bytesOf, part, within, spliced, readAt, putAt, ReadBack, Rewritten}
+use Rattle.bytes.specs.Fields.{be, bytesOf, part, within, spliced, putAt, ReadBack, Rewritten}
 
 pub length-bytesOf : (k n : ℕ) → length (bytesOf k n) ≡ k
 length-bytesOf zero n = refl

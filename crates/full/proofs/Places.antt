@@ -2,7 +2,7 @@
 use mathlib.Core.Path.{_≡_, refl, sym, ap, _∙_}
 use mathlib.Core.Bool.{Bool, true, false, cond, _&&_}
 use mathlib.Core.List.{List, [], _∷_}
-use Prim.Native.Nat.{ℕ, zero, suc, _+_}
+use Prim.Native.Nat.{ℕ, suc, _+_}
 use native.Mathlib.Omega.{arith}
 use lib.Dec.{eqb}
 use borrow.Author.Tests.{eqb-true}
@@ -15,7 +15,6 @@ use Rattle.std.specs.declared.result.Result.{Result}
 use Rattle.std.specs.declared.result.Result.the-variants.{Ok, Err}
 use Rattle.seek.specs.Place.{placeOf, onBy}
 use Rattle.registers.specs.declared.row.Key.{Key}
-use Rattle.registers.specs.declared.row.Figures.{Figures}
 use Rattle.registers.specs.declared.row.Row.{Row}
 use Rattle.registers.specs.Registers.{sameKey}
 use Rattle.registers.specs.Stores.{placeFor}
@@ -26,7 +25,8 @@ use Rattle.full.specs.declared.moves.Moves.{Moves}
 use Rattle.orders.specs.Steps.{andThen}
 use Rattle.full.specs.Blocks.{heldIn, heldFrom, heldAt}
 use Rattle.orders.specs.Blocks.{cashKey, holdingKey}
-use Rattle.full.specs.Trades.{fourOf, FiguresAt, moveTo, movesOf, settleOf, Apart, Standing}
+use Rattle.full.specs.Trades.{fourOf, movesOf, Apart, Standing}
+use Rattle.full.specs.Blocks.{FiguresAt}
 
 no-case : {X : Type 0} → _≡_ {A = ℕ} 0 1 → X
 no-case z = absurd (omega arith)

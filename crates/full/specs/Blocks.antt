@@ -2,12 +2,12 @@
 use mathlib.Core.Path.{_≡_}
 use mathlib.Core.Bool.{Bool, cond}
 use mathlib.Core.List.{List}
-use Prim.Native.Nat.{ℕ, _/_, _<_}
+use Prim.Native.Nat.{ℕ}
 use lib.Dec.{eqb}
 use lib.IntN.{ℤ, pos, _+ℤ_, _-ℤ_}
-use lib.ListN.{length}
 use lib.Signed.{leZ}
 use Rattle.std.specs.Finite.{nth}
+use Rattle.std.specs.Options.{mapped}
 use Rattle.std.specs.declared.option.Option.{Option}
 use Rattle.std.specs.declared.option.Option.the-variants.{Some, None}
 use Rattle.std.specs.declared.result.Result.{Result}
@@ -16,17 +16,11 @@ use Rattle.registers.specs.declared.row.Key.{Key}
 use Rattle.registers.specs.declared.row.Figures.{Figures}
 use Rattle.registers.specs.declared.row.Row.{Row}
 use Rattle.registers.specs.declared.fault.StoreFault.the-variants.{NotOpen, OutOfRange}
-use Rattle.registers.specs.Amounts.{moneyOf, riskOf}
-use Rattle.registers.specs.Registers.{inRange, Bounded}
+use Rattle.registers.specs.Registers.{inRange}
 use Rattle.registers.specs.Stores.{placeFor, putRow}
 use Rattle.full.specs.declared.held.Held.{Held}
-use Rattle.orders.specs.declared.order.Side.{Side}
-use Rattle.orders.specs.declared.order.Side.the-variants.{Buy, Sell}
-use Rattle.orders.specs.declared.order.Mode.{Mode}
-use Rattle.orders.specs.declared.order.Mode.the-variants.{Full, Partial}
 use Rattle.orders.specs.declared.refusal.Refusal.{Refusal}
 use Rattle.orders.specs.declared.refusal.Refusal.the-variants.{Store, NotCovered, LeavesRange}
-use Rattle.orders.specs.State.{Live}
 use Rattle.orders.specs.Steps.{demand}
 
 -- an open register: its place and its figures
@@ -40,6 +34,10 @@ heldFrom rs (Some n) = heldIn n (nth rs n)
 
 unfoldable pub heldAt : List Row → Key → Result Held Refusal
 heldAt rs k = heldFrom rs (placeFor k rs)
+
+-- the figures that stand at a place
+abbrev pub FiguresAt : List Row → ℕ → Figures → Type 0
+FiguresAt rs i f = mapped (λ r. r .figures) (nth rs i) ≡ Some f
 
 -- figures with another limit, and with another blocked figure
 abbrev pub withLimit : Figures → ℤ → Figures

@@ -1,11 +1,9 @@
 -- A call's plan: what it answers and the state that it leaves, or why it is refused.
 use mathlib.Core.Path.{_≡_}
-use mathlib.Core.Bool.{Bool, true, false}
 use mathlib.Core.List.{List}
 use Prim.Native.Nat.{ℕ}
 use lib.IntN.{ℤ}
 use Rattle.std.specs.declared.option.Option.{Option}
-use Rattle.std.specs.declared.option.Option.the-variants.{Some, None}
 use Rattle.std.specs.declared.result.Result.{Result}
 use Rattle.std.specs.declared.result.Result.the-variants.{Ok, Err}
 use Rattle.registers.specs.declared.row.Row.{Row}

@@ -1,17 +1,14 @@
 -- What a trade does: its checks in their order, the registers that it moves, and the state it leaves.
 use mathlib.Core.Path.{_≡_}
-use mathlib.Core.Bool.{Bool, true, false, _&&_, not}
+use mathlib.Core.Bool.{Bool, _&&_}
 use mathlib.Core.List.{List}
 use Prim.Native.Nat.{ℕ}
-use lib.Dec.{eqb, leb, ltb}
 use lib.IntN.{ℤ, pos, _+ℤ_, _-ℤ_}
 use lib.ListN.{set, getD}
-use Rattle.std.specs.Finite.{nth}
-use Rattle.std.specs.Options.{mapped}
 use Rattle.std.specs.declared.option.Option.{Option}
-use Rattle.std.specs.declared.option.Option.the-variants.{Some, None}
+use Rattle.std.specs.declared.option.Option.the-variants.{None}
 use Rattle.std.specs.declared.result.Result.{Result}
-use Rattle.std.specs.declared.result.Result.the-variants.{Ok, Err}
+use Rattle.std.specs.declared.result.Result.the-variants.{Ok}
 use Rattle.registers.specs.declared.row.Figures.{Figures}
 use Rattle.registers.specs.declared.row.Row.{Row}
 use Rattle.registers.specs.declared.fault.StoreFault.the-variants.{OutOfRange}
@@ -19,21 +16,16 @@ use Rattle.registers.specs.Amounts.{moneyOf}
 use Rattle.registers.specs.Registers.{inRange}
 use Rattle.registers.specs.Stores.{putRow}
 use Rattle.orders.specs.declared.refusal.Refusal.{Refusal}
-use Rattle.orders.specs.declared.refusal.Refusal.the-variants.{BadValue, TradeNumber, WrongSide, Mismatch, SameAccount, AboveRest, PriceOutside, LeavesRange, Store}
-use Rattle.orders.specs.declared.order.Side.{Side}
-use Rattle.orders.specs.declared.order.Side.the-variants.{Buy, Sell}
-use Rattle.orders.specs.declared.order.Mode.{Mode}
-use Rattle.orders.specs.declared.order.Mode.the-variants.{Full, Partial}
+use Rattle.orders.specs.declared.refusal.Refusal.the-variants.{BadValue, LeavesRange, Store}
 use Rattle.full.specs.declared.moves.Move.{Move}
 use Rattle.full.specs.declared.moves.Moves.{Moves}
 use Rattle.full.specs.declared.moves.Four.{Four}
 use Rattle.full.specs.declared.held.Held.{Held}
 use Rattle.orders.specs.declared.terms.Deal.{Deal}
-use Rattle.orders.specs.State.{Live, lowered, liveOf}
-use Rattle.orders.specs.Terms.{bargainOf}
+use Rattle.orders.specs.State.{Live, lowered}
 use Rattle.full.specs.Plans.{State, Plan, withRows, withOrders, withLastTrade}
-use Rattle.orders.specs.Steps.{andThen, demand, orRefuse}
-use Rattle.full.specs.Blocks.{heldAt}
+use Rattle.orders.specs.Steps.{andThen, demand}
+use Rattle.full.specs.Blocks.{heldAt, FiguresAt}
 use Rattle.orders.specs.Blocks.{cashKey, holdingKey}
 use Rattle.orders.specs.Checks.{isFull, pairOf}
 
@@ -102,7 +94,7 @@ tradeOf s d =
       next = withLastTrade (withOrders (withRows s (movedAll (s .rows) m)) (lowerAt (lowerAt (s .orders) (p .buyPlace) (p .quantity)) (p .sellPlace) (p .quantity))) (d .number);
     })))))
 
--- moves whose places all differ, and whose figures before are those of the rows
+-- moves whose places all differ
 pub record Apart (m : Moves) : Type 0 where
   pub ab : m .a .place ≡ m .b .place → ⊥
   pub ac : m .a .place ≡ m .c .place → ⊥
@@ -111,9 +103,7 @@ pub record Apart (m : Moves) : Type 0 where
   pub bd : m .b .place ≡ m .d .place → ⊥
   pub cd : m .c .place ≡ m .d .place → ⊥
 
-abbrev pub FiguresAt : List Row → ℕ → Figures → Type 0
-FiguresAt rs i f = mapped (λ r. r .figures) (nth rs i) ≡ Some f
-
+-- moves whose figures before are those of the rows
 pub record Standing (rs : List Row) (m : Moves) : Type 0 where
   pub a-at : FiguresAt rs (m .a .place) (m .a .before)
   pub b-at : FiguresAt rs (m .b .place) (m .b .before)

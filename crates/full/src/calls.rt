@@ -10,14 +10,14 @@ ghost use Rattle.orders.specs.State.{slotsOf, listOf};
 ghost use Rattle.full.specs.Plans.{stateOf, Done};
 ghost use Rattle.full.specs.Calls.{admitOf, openingKey, openOf, assetKey, creditOf, announceOf, withdrawOf};
 use crate::engine::Engine;
-use crate::keys::cash_key;
-use crate::keys::floor;
-use crate::keys::holding_key;
 use crate::registers_of::block_on;
 use crate::registers_of::credit_on;
+use crate::registers_of::floor;
 use crate::registers_of::held;
 use crate::registers_of::put_held;
 use crate::registers_of::release_on;
+use orders::blocks::cash_key;
+use orders::blocks::holding_key;
 use orders::checks::ready;
 use orders::order::Book;
 use orders::ranges::amount as amount_of;
@@ -159,7 +159,7 @@ impl<S: Store> Engine<S> {
         };
         let register = held(&mut self.store, asset_key(code, security))?;
         let credited = credit_on(register, amount)?;
-        put_held(&mut self.store, credited);
+        put_held(&mut self.store, register, credited.figures);
         Ok(credited.figures.limit)
     }
 }
@@ -182,7 +182,7 @@ impl<S: Store> Engine<S> {
         let amount = ready.order.block(ready.order.rest);
         let cover = if key.kind == 1 { cash } else { holding };
         let blocked = block_on(cover, amount, floor(self.reserve, key))?;
-        put_held(&mut self.store, blocked);
+        put_held(&mut self.store, cover, blocked.figures);
         self.book.add(ready.place, ready.order);
         Ok(amount.units as i64)
     }
@@ -197,7 +197,7 @@ impl<S: Store> Engine<S> {
         let amount = found.order.block(found.order.rest);
         let register = held(&mut self.store, found.order.block_key())?;
         let released = release_on(register, amount)?;
-        put_held(&mut self.store, released);
+        put_held(&mut self.store, register, released.figures);
         self.book.free(found.place);
         Ok(amount.units as i64)
     }

@@ -3,7 +3,6 @@
 pub mod calls;
 pub mod engine;
 pub mod held;
-mod keys;
 mod moves;
 mod ordering;
 pub mod registers_of;

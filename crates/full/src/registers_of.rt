@@ -1,15 +1,15 @@
 //! Reading, changing and putting the registers that a call moves.
 
 ghost use mathlib.Core.Path.{_≡_};
-ghost use mathlib.Core.Bool.{cond, true, false};
+ghost use mathlib.Core.Bool.{true, false};
 ghost use Prim.Native.Nat.{_<_};
 ghost use lib.IntN.{pos, _+ℤ_, _-ℤ_};
-ghost use lib.ListN.{length};
 ghost use lib.Signed.{leZ};
 ghost use denote.Ref.{name};
 ghost use Rattle.std.specs.Vec.{made};
 ghost use Rattle.registers.specs.Registers.{Within};
-ghost use Rattle.full.specs.Blocks.{heldAt, putHeld, blockOn, releaseOn, creditOn, kept};
+ghost use Rattle.registers.specs.Stores.{putRow};
+ghost use Rattle.full.specs.Blocks.{heldAt, FiguresAt, floorOf, blockOn, releaseOn, creditOn, kept};
 use crate::held::Cover;
 use crate::held::Held;
 use orders::refusal::Refusal;
@@ -23,6 +23,7 @@ use registers::store::Store;
 /// The open register of a key. Refuses (6) where none is open; the store is as it stood.
 pub fn held<S: Store>(store: &mut S, key: Key) -> Result<Held, Refusal>
     ensures answer { λ r. ⌜ r ≡ heldAt (S·Store .rows (now (store .entry))) key ⌝ }
+    ensures stands { λ r. ⌜ made r (λ h. FiguresAt (S·Store .rows (now (store .entry))) (h .place) (h .figures)) ⌝ }
     ensures kept { λ _. ⌜ S·Store .rows (now (store .exit)) ≡ S·Store .rows (now (store .entry)) ⌝ }
     ensures roomy { λ _. ⌜ S·Store .capacity (now (store .exit)) ≡ S·Store .capacity (now (store .entry)) ⌝ }
 {
@@ -38,33 +39,46 @@ pub fn held<S: Store>(store: &mut S, key: Key) -> Result<Held, Refusal>
     })
 }
 
-/// Puts a register's figures back at its place; a place beyond the last changes nothing.
-pub fn put_held<S: Store>(store: &mut S, held: Held)
-    ensures after { λ _. ⌜ S·Store .rows (now (store .exit)) ≡ putHeld (S·Store .rows (now (store .entry))) held ⌝ }
-    ensures roomy { λ _. ⌜ S·Store .capacity (now (store .exit)) ≡ S·Store .capacity (now (store .entry)) ⌝ }
+fn same_figures(x: Figures, y: Figures) -> bool
+    ensures same { λ r. ⌜ (r ≡ true → x ≡ y) ⌝ }
+    ensures differ { λ r. ⌜ (x ≡ y → r ≡ true) ⌝ }
 {
-    let _ = store.put(held.place, held.figures);
+    x.limit == y.limit && x.blocked == y.blocked && x.third == y.third
 }
 
-/// A raised figure. It is set back where the guard ends, unless it was confirmed.
+/// Puts new figures at the place of a register as it was read, if they differ from those; a place
+/// beyond the last changes nothing.
+pub fn put_held<S: Store>(store: &mut S, held: Held, figures: Figures)
+    ensures same { λ _. ⌜ (held .figures ≡ figures → S·Store .rows (now (store .exit)) ≡ S·Store .rows (now (store .entry))) ⌝ }
+    ensures changed { λ _. ⌜ ((held .figures ≡ figures → ⊥) → S·Store .rows (now (store .exit)) ≡ putRow (S·Store .rows (now (store .entry))) (held .place) figures) ⌝ }
+    ensures after { λ _. ⌜ (FiguresAt (S·Store .rows (now (store .entry))) (held .place) (held .figures) → S·Store .rows (now (store .exit)) ≡ putRow (S·Store .rows (now (store .entry))) (held .place) figures) ⌝ }
+    ensures roomy { λ _. ⌜ S·Store .capacity (now (store .exit)) ≡ S·Store .capacity (now (store .entry)) ⌝ }
+{
+    if same_figures(held.figures, figures) {
+        return;
+    }
+    let _ = store.put(held.place, figures);
+}
+
+/// What a block on a register has to leave of its limit: the reserve for cash, and nothing elsewhere.
+pub(crate) fn floor(reserve: u16, key: Key) -> u16
+    ensures { λ r. ⌜ r ≡ floorOf reserve key ⌝ }
+{
+    if key.kind == 1 { reserve } else { 0 }
+}
+
+/// A raised figure. It is set back where the guard ends, unless `confirm` took the guard apart.
 pub struct Raised<'a> {
     figure: &'a mut i64,
     old: i64,
-    confirmed: bool,
 }
 
 impl Drop for Raised<'_> {
     fn drop(self)
-        ensures { λ _. ⌜ now (self .exit .0) ≡ kept (self .entry .confirmed) (now (self .entry .figure)) (self .entry .old) ⌝ }
+        ensures { λ _. ⌜ now (self .exit .0) ≡ self .entry .old ⌝ }
     {
-        if !self.confirmed {
-            *self.figure = self.old;
-        }
-        let Raised {
-            figure: _,
-            old: _,
-            confirmed: _,
-        } = self;
+        *self.figure = self.old;
+        let Raised { figure: _, old: _ } = self;
     }
 }
 
@@ -74,15 +88,10 @@ impl<'a> Raised<'a> {
         ensures same { λ r. ⌜ name (r .figure) ≡ name (figure .entry) ⌝ }
         ensures raised { λ r. ⌜ now (r .figure) ≡ now (figure .entry) +ℤ pos (amount .units) ⌝ }
         ensures old { λ r. ⌜ r .old ≡ now (figure .entry) ⌝ }
-        ensures unconfirmed { λ r. ⌜ r .confirmed ≡ false ⌝ }
     {
         let old = *figure;
         *figure = old + amount.units as i64;
-        Raised {
-            figure,
-            old,
-            confirmed: false,
-        }
+        Raised { figure, old }
     }
 
     fn value(&self) -> i64
@@ -94,11 +103,7 @@ impl<'a> Raised<'a> {
     fn confirm(self)
         ensures { λ _. ⌜ now (self .exit .0) ≡ now (self .entry .figure) ⌝ }
     {
-        let Raised {
-            figure: _,
-            old: _,
-            confirmed: _,
-        } = self;
+        let Raised { figure: _, old: _ } = self;
     }
 }
 
@@ -122,7 +127,8 @@ fn raise_covered(blocked: &mut i64, cover: Cover) -> bool
 /// Blocks an amount on a register: its figures with the blocked figure raised. Refuses (25) figures
 /// out of range, and (10) where the limit does not cover the raised figure and the floor.
 pub fn block_on(held: Held, amount: Amount, floor: u16) -> Result<Held, Refusal>
-    ensures { λ r. ⌜ r ≡ blockOn held (amount .units) floor ⌝ }
+    ensures answer { λ r. ⌜ r ≡ blockOn held (amount .units) floor ⌝ }
+    ensures placed { λ r. ⌜ made r (λ h. h .place ≡ held .place) ⌝ }
 {
     if !held.figures.in_range() {
         return Err(Refusal::Store(StoreFault::OutOfRange));
@@ -151,7 +157,8 @@ pub fn block_on(held: Held, amount: Amount, floor: u16) -> Result<Held, Refusal>
 /// Releases an amount on a register: its figures with the blocked figure lowered. Refuses (25)
 /// figures out of range, and (26) where they would leave it.
 pub fn release_on(held: Held, amount: Amount) -> Result<Held, Refusal>
-    ensures { λ r. ⌜ r ≡ releaseOn held (amount .units) ⌝ }
+    ensures answer { λ r. ⌜ r ≡ releaseOn held (amount .units) ⌝ }
+    ensures placed { λ r. ⌜ made r (λ h. h .place ≡ held .place) ⌝ }
 {
     let Figures {
         limit,
@@ -178,7 +185,8 @@ pub fn release_on(held: Held, amount: Amount) -> Result<Held, Refusal>
 /// Raises a register's limit by an amount. Refuses (25) figures out of range, and (26) where they
 /// would leave it.
 pub(crate) fn credit_on(held: Held, amount: Amount) -> Result<Held, Refusal>
-    ensures { λ r. ⌜ r ≡ creditOn held (amount .units) ⌝ }
+    ensures answer { λ r. ⌜ r ≡ creditOn held (amount .units) ⌝ }
+    ensures placed { λ r. ⌜ made r (λ h. h .place ≡ held .place) ⌝ }
 {
     let Figures {
         limit,

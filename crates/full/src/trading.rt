@@ -6,18 +6,16 @@ ghost use Rattle.std.specs.Vec.{made};
 ghost use Rattle.registers.specs.Registers.{Bounded};
 ghost use Rattle.full.specs.Plans.{stateOf, Done};
 ghost use Rattle.full.specs.Trades.{allIn, fourOf, paidOf, raisedOf, moveTo, settleOf, tradeOf, movesOf};
-ghost use Rattle.orders.specs.Checks.{isFull};
 use crate::engine::Engine;
 use crate::held::Held;
-use crate::keys::cash_key;
-use crate::keys::holding_key;
 use crate::moves::Four;
 use crate::moves::Move;
 use crate::moves::Moves;
 use crate::ordering::put_moves;
 use crate::registers_of::held;
+use orders::blocks::cash_key;
+use orders::blocks::holding_key;
 use orders::checks::pair;
-use orders::order::Mode;
 use orders::refusal::Refusal;
 use orders::terms::Deal;
 use registers::amounts::money;
@@ -26,15 +24,6 @@ use registers::ranges::Amount;
 use registers::ranges::Quantity;
 use registers::row::Figures;
 use registers::store::Store;
-
-fn is_full(mode: Mode) -> bool
-    ensures { λ r. ⌜ r ≡ isFull mode ⌝ }
-{
-    match mode {
-        Mode::Full => true,
-        Mode::Partial => false,
-    }
-}
 
 /// The four registers of a trade with full collateral. Refuses (6) where one is not open.
 pub(crate) fn four<S: Store>(
@@ -138,14 +127,14 @@ pub(crate) fn settle(
 impl<S: Store> Engine<S> {
     /// Carries out a trade between two live orders with full collateral; answers its money. Both rests
     /// fall by the quantity, the securities and the money change hands, and the block of the quantity
-    /// at each order's own price is released. Refuses as `pair` does (5, 12, 11, 13 to 17), then an
-    /// account whose cash or holding is not open (6), figures out of range (25) and figures that would
+    /// at each order's own price is released. Refuses as `pair` does (5, 12, 11, 13 to 17), then a pair
+    /// of orders in partial mode (5), an account whose cash or holding is not open (6), figures out of range (25) and figures that would
     /// leave it (26).
     pub fn trade(&mut self, d: Deal) -> Result<i64, Refusal>
         ensures { λ r. ⌜ Done (tradeOf (stateOf (S·Store .rows) (S·Store .capacity) (now (self .entry))) d) (stateOf (S·Store .rows) (S·Store .capacity) (now (self .entry))) (stateOf (S·Store .rows) (S·Store .capacity) (now (self .exit))) r ⌝ }
     {
         let pair = pair(&self.book, self.trade, d)?;
-        if !is_full(pair.buy.mode) {
+        if !pair.buy.mode.is_full() {
             return Err(Refusal::BadValue);
         }
         let four = four(

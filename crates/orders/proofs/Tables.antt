@@ -1,6 +1,6 @@
 -- The engine's tables, as lists of what they hold.
 use mathlib.Core.Path.{_≡_, refl, sym, ap, _∙_}
-use mathlib.Core.Bool.{Bool, true, false, cond}
+use mathlib.Core.Bool.{Bool, cond}
 use mathlib.Core.List.{List, [], _∷_, _++_, map}
 use Prim.Native.Nat.{ℕ, zero, suc, _+_, _<_, _≤_, min}
 use native.Mathlib.Omega.{arith}
@@ -8,7 +8,6 @@ use lib.Dec.{eqb}
 use lib.ListN.{length, take, set, getD, length-take, length-map}
 use Rattle.std.proofs.shelf.Lists.{map-set, map-push, set-past, take-more-set, getD-take, getD-default, set-getD, getD-map}
 use Rattle.std.proofs.shelf.Maps.{nth-getD}
-use Rattle.std.specs.Finite.{nth}
 use Rattle.std.specs.Options.{mapped}
 use Rattle.std.specs.declared.option.Option.{Option}
 use Rattle.std.specs.declared.option.Option.the-variants.{Some, None}

@@ -1,11 +1,11 @@
 -- The engine's state, as the rules speak of it.
 use mathlib.Core.Bool.{Bool, true, false, cond}
-use mathlib.Core.List.{List, [], _∷_, map}
+use mathlib.Core.List.{List, map}
 use Prim.Native.Nat.{ℕ, _-_, min}
 use lib.Dec.{eqb, leb}
-use lib.ListN.{take, getD, set}
+use lib.ListN.{take}
 use Rattle.std.specs.Finite.{nth}
-use Rattle.std.specs.Options.{mapped, isSome}
+use Rattle.std.specs.Options.{mapped}
 use Rattle.std.specs.declared.option.Option.{Option}
 use Rattle.std.specs.declared.option.Option.the-variants.{Some, None}
 use Rattle.seek.specs.Place.{placeOf}

@@ -1,5 +1,5 @@
 -- The ranges of a call's arguments.
-use mathlib.Core.Bool.{Bool, _&&_, _||_, cond}
+use mathlib.Core.Bool.{Bool, _&&_, cond}
 use Prim.Native.Nat.{ℕ}
 use lib.Dec.{eqb, leb}
 use Rattle.std.specs.declared.option.Option.{Option}
@@ -14,7 +14,7 @@ use Rattle.orders.specs.declared.terms.Bargain.{Bargain}
 abbrev pub between : ℕ → ℕ → ℕ → Bool
 between least most n = leb least n && leb n most
 
--- account codes, securities, quantities, prices, ratios; the numbers of orders and trades from 1 on
+-- account codes, securities, and the numbers of orders and trades from 1 on
 unfoldable pub codeOk : ℕ → Bool
 codeOk c = between 100 999999 c
 

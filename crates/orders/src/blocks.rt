@@ -13,7 +13,8 @@ use registers::ranges::Amount;
 use registers::ranges::Quantity;
 use registers::row::Key;
 
-fn cash_key(account: u32) -> Key
+/// The key of an account's cash.
+pub fn cash_key(account: u32) -> Key
     ensures { λ r. ⌜ r ≡ cashKey account ⌝ }
 {
     Key {
@@ -23,7 +24,8 @@ fn cash_key(account: u32) -> Key
     }
 }
 
-fn holding_key(account: u32, security: u16) -> Key
+/// The key of an account's holding of a security.
+pub fn holding_key(account: u32, security: u16) -> Key
     ensures { λ r. ⌜ r ≡ holdingKey account security ⌝ }
 {
     Key {

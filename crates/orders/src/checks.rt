@@ -4,7 +4,7 @@ ghost use mathlib.Core.Path.{_≡_};
 ghost use Rattle.std.specs.Vec.{made};
 ghost use Rattle.orders.specs.State.{slotsOf, listOf};
 ghost use Rattle.orders.specs.Steps.{okAs};
-ghost use Rattle.orders.specs.Checks.{readyOf, foundOf, matchedOf, pairOf, isBuy, sameMode};
+ghost use Rattle.orders.specs.Checks.{readyOf, foundOf, matchedOf, pairOf, isBuy, isFull, sameMode};
 ghost use Rattle.orders.specs.Views.{readyAs, foundAs, pairAs};
 use crate::found::Found;
 use crate::found::Pair;
@@ -79,6 +79,16 @@ impl Side {
 }
 
 impl Mode {
+    /// Whether the mode is full collateral.
+    pub fn is_full(self) -> bool
+        ensures { λ r. ⌜ r ≡ isFull self ⌝ }
+    {
+        match self {
+            Mode::Full => true,
+            Mode::Partial => false,
+        }
+    }
+
     fn is_same(self, other: Mode) -> bool
         ensures { λ r. ⌜ r ≡ sameMode self other ⌝ }
     {

@@ -1,5 +1,5 @@
 -- The rows of an image, and what a write into one of them, or past the last, leaves.
-use mathlib.Core.Path.{_≡_, refl, sym, ap, _∙_, subst}
+use mathlib.Core.Path.{_≡_, refl, sym, ap, _∙_}
 use mathlib.Core.Bool.{Bool, true, false, cond}
 use mathlib.Core.List.{List, [], _∷_, _++_}
 use mathlib.Core.Logic.{_⊎_, inl, inr, ⊎-elim}
@@ -16,12 +16,11 @@ use Rattle.std.proofs.shelf.Lists.{take-at, drop-at, take-all, append-assoc, ge
 use Rattle.std.proofs.shelf.Signed.{toZ-ofZ}
 use Rattle.std.proofs.shelf.Tests.{cases-order}
 use Rattle.std.specs.Finite.{nth}
-use Rattle.std.specs.declared.option.Option.{Option}
-use Rattle.std.specs.declared.option.Option.the-variants.{Some, None}
+use Rattle.std.specs.declared.option.Option.the-variants.{Some}
 use Rattle.std.specs.declared.result.Result.{Result}
 use Rattle.std.specs.declared.result.Result.the-variants.{Ok, Err}
 use Rattle.bytes.specs.Fields.{be, bytesOf, part, spliced, putAt}
-use Rattle.bytes.proofs.Widths.{length-bytesOf, be-bytesOf, length-spliced, part-same, part-apart, part-inside, spliced-spliced, put-within}
+use Rattle.bytes.proofs.Widths.{be-bytesOf, length-spliced, part-same, part-apart, part-inside, spliced-spliced, put-within}
 use Rattle.registers.specs.declared.row.Key.{Key}
 use Rattle.registers.specs.declared.row.Figures.{Figures}
 use Rattle.registers.specs.declared.row.Row.{Row}

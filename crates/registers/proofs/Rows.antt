@@ -1,22 +1,17 @@
 -- What a put and an add do to a list of rows, for every store.
 use mathlib.Core.Path.{_≡_, refl, sym, ap, _∙_}
-use mathlib.Core.Bool.{true, false}
 use mathlib.Core.List.{List, [], _∷_, _++_}
 use Prim.Native.Nat.{ℕ, zero, suc, _+_, _<_, _≤_, min}
 use native.Mathlib.Omega.{arith}
 use lib.ListN.{length, take, set, getD, length-take, length-set}
-use lib.Dec.{ltb}
 use borrow.Author.Tests.{lt-ltb, le-ltb}
 use Rattle.std.proofs.shelf.Lists.{take-more-set, getD-take}
 use Rattle.std.proofs.shelf.Maps.{nth-getD, nth-past}
 use Rattle.std.specs.Finite.{nth}
-use Rattle.std.specs.declared.option.Option.{Option}
 use Rattle.std.specs.declared.option.Option.the-variants.{Some, None}
-use Rattle.std.specs.declared.result.Result.{Result}
 use Rattle.std.specs.declared.result.Result.the-variants.{Ok, Err}
 use Rattle.registers.specs.declared.row.Figures.{Figures}
 use Rattle.registers.specs.declared.row.Row.{Row}
-use Rattle.registers.specs.declared.fault.StoreFault.{StoreFault}
 use Rattle.registers.specs.declared.fault.StoreFault.the-variants.{Full, NotOpen}
 use Rattle.registers.specs.Stores.{putRow, putAnswer, addRow, addAnswer, withFigures}
 use Rattle.registers.specs.Tables.{tableRoom, tableHeld, tableRows}

@@ -1,6 +1,6 @@
 -- Amounts: one rounding over a divisor, and what it is used for.
 use mathlib.Core.Path.{_≡_}
-use mathlib.Core.Bool.{Bool, cond, _&&_}
+use mathlib.Core.Bool.{cond, _&&_}
 use Prim.Native.Nat.{ℕ, _+_, _*_, _/_, _≤_, _<_}
 use lib.Dec.{leb}
 use Rattle.std.specs.declared.option.Option.{Option}

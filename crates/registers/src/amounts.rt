@@ -1,7 +1,7 @@
 //! Amounts of money: what a quantity costs at a price, and the collateral that its risk asks for.
 
 ghost use mathlib.Core.Path.{_≡_};
-ghost use Prim.Native.Nat.{ℕ, _*_, _≤_};
+ghost use Prim.Native.Nat.{_*_, _≤_};
 ghost use Rattle.std.specs.Options.{mapped};
 ghost use Rattle.registers.specs.Amounts.{moneyOf, riskOf, ranged, rounded, RoundedNear, RoundedMonotone, RoundedNone};
 use crate::ranges::Amount;

@@ -44,7 +44,8 @@ start limit =
       securities = record { number = 5; ratio = 1000 } ∷ [];
       orders = None ∷ None ∷ [];
       lastOrder = 0;
-      lastTrade = 0 }
+      lastTrade = 0;
+    }
 
 -- order 1 is a purchase, order 2 a sale at 1
 abbrev pub buying : ℕ → ℕ → State → Result Plan Refusal

@@ -27,29 +27,92 @@ fn show_outcome(rt: &LibcRuntime, outcome: Result<i64, Refusal>) -> io::Result<(
     }
 }
 
-fn admit<S: Store>(rt: &LibcRuntime, engine: &mut Engine<S>, security: u16, ratio: u16) -> io::Result<()> {
+fn admit<S: Store>(
+    rt: &LibcRuntime,
+    engine: &mut Engine<S>,
+    security: u16,
+    ratio: u16,
+) -> io::Result<()> {
     print!(rt, "admit {security} {ratio}")?;
     show_outcome(rt, engine.admit(security, ratio))
 }
 
-fn open<S: Store>(rt: &LibcRuntime, engine: &mut Engine<S>, kind: u8, code: u32, security: u16, limit: u64) -> io::Result<()> {
+fn open<S: Store>(
+    rt: &LibcRuntime,
+    engine: &mut Engine<S>,
+    kind: u8,
+    code: u32,
+    security: u16,
+    limit: u64,
+) -> io::Result<()> {
     print!(rt, "open {kind} {code} {security} {limit}")?;
-    show_outcome(rt, engine.open(Opening { kind, code, security, limit, margin: 0 }))
+    show_outcome(
+        rt,
+        engine.open(Opening {
+            kind,
+            code,
+            security,
+            limit,
+            margin: 0,
+        }),
+    )
 }
 
-fn credit<S: Store>(rt: &LibcRuntime, engine: &mut Engine<S>, code: u32, security: u16, amount: u64) -> io::Result<()> {
+fn credit<S: Store>(
+    rt: &LibcRuntime,
+    engine: &mut Engine<S>,
+    code: u32,
+    security: u16,
+    amount: u64,
+) -> io::Result<()> {
     print!(rt, "credit {code} {security} {amount}")?;
     show_outcome(rt, engine.credit(code, security, amount))
 }
 
-fn buy<S: Store>(rt: &LibcRuntime, engine: &mut Engine<S>, number: u32, account: u32, quantity: u32, price: u32) -> io::Result<()> {
+fn buy<S: Store>(
+    rt: &LibcRuntime,
+    engine: &mut Engine<S>,
+    number: u32,
+    account: u32,
+    quantity: u32,
+    price: u32,
+) -> io::Result<()> {
     print!(rt, "buy {number} {account} {quantity} at {price}")?;
-    show_outcome(rt, engine.announce(Announcement { side: Side::Buy, mode: 1, number, account, security: 5, quantity, price }))
+    show_outcome(
+        rt,
+        engine.announce(Announcement {
+            side: Side::Buy,
+            mode: 1,
+            number,
+            account,
+            security: 5,
+            quantity,
+            price,
+        }),
+    )
 }
 
-fn sell<S: Store>(rt: &LibcRuntime, engine: &mut Engine<S>, number: u32, account: u32, quantity: u32, price: u32) -> io::Result<()> {
+fn sell<S: Store>(
+    rt: &LibcRuntime,
+    engine: &mut Engine<S>,
+    number: u32,
+    account: u32,
+    quantity: u32,
+    price: u32,
+) -> io::Result<()> {
     print!(rt, "sell {number} {account} {quantity} at {price}")?;
-    show_outcome(rt, engine.announce(Announcement { side: Side::Sell, mode: 1, number, account, security: 5, quantity, price }))
+    show_outcome(
+        rt,
+        engine.announce(Announcement {
+            side: Side::Sell,
+            mode: 1,
+            number,
+            account,
+            security: 5,
+            quantity,
+            price,
+        }),
+    )
 }
 
 fn withdraw<S: Store>(rt: &LibcRuntime, engine: &mut Engine<S>, number: u32) -> io::Result<()> {
@@ -58,8 +121,17 @@ fn withdraw<S: Store>(rt: &LibcRuntime, engine: &mut Engine<S>, number: u32) -> 
 }
 
 fn trade<S: Store>(rt: &LibcRuntime, engine: &mut Engine<S>, deal: Deal) -> io::Result<()> {
-    let Deal { number, buy, sell, quantity, price } = deal;
-    print!(rt, "trade {number} of {buy} and {sell}, {quantity} at {price}")?;
+    let Deal {
+        number,
+        buy,
+        sell,
+        quantity,
+        price,
+    } = deal;
+    print!(
+        rt,
+        "trade {number} of {buy} and {sell}, {quantity} at {price}"
+    )?;
     show_outcome(rt, engine.trade(deal))?;
     show_rows(rt, &mut engine.store)
 }
@@ -85,11 +157,51 @@ fn deal<S: Store>(rt: &LibcRuntime, engine: &mut Engine<S>) -> io::Result<()> {
     buy(rt, engine, 1, 701, 2, 50)?;
     sell(rt, engine, 2, 802, 102, 50)?;
     show_rows(rt, &mut engine.store)?;
-    trade(rt, engine, Deal { number: 1, buy: 1, sell: 2, quantity: 1, price: 50 })?;
-    trade(rt, engine, Deal { number: 2, buy: 1, sell: 2, quantity: 1, price: 50 })?;
-    trade(rt, engine, Deal { number: 3, buy: 1, sell: 2, quantity: 1, price: 50 })?;
+    trade(
+        rt,
+        engine,
+        Deal {
+            number: 1,
+            buy: 1,
+            sell: 2,
+            quantity: 1,
+            price: 50,
+        },
+    )?;
+    trade(
+        rt,
+        engine,
+        Deal {
+            number: 2,
+            buy: 1,
+            sell: 2,
+            quantity: 1,
+            price: 50,
+        },
+    )?;
+    trade(
+        rt,
+        engine,
+        Deal {
+            number: 3,
+            buy: 1,
+            sell: 2,
+            quantity: 1,
+            price: 50,
+        },
+    )?;
     buy(rt, engine, 3, 703, 100, 10_000)?;
-    trade(rt, engine, Deal { number: 3, buy: 3, sell: 2, quantity: 100, price: 9_900 })?;
+    trade(
+        rt,
+        engine,
+        Deal {
+            number: 3,
+            buy: 3,
+            sell: 2,
+            quantity: 100,
+            price: 9_900,
+        },
+    )?;
     withdraw(rt, engine, 2)?;
     sell(rt, engine, 4, 802, 10, 1)?;
     withdraw(rt, engine, 4)?;

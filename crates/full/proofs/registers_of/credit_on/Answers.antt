@@ -1,6 +1,5 @@
 use borrow.Author.Needs.{needs}
-use Rattle.std.proofs.shelf.Signed.{toZ-ofZ, ints}
-use native.Mathlib.Omega.{arith}
+use Rattle.std.proofs.shelf.Signed.{toZ-ofZ}
 use Rattle.full.specs.Blocks.{creditOn}
 use Rattle.full.proofs.registers_of.credit_on.Needs as need
 

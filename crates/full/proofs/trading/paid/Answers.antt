@@ -1,6 +1,5 @@
 use borrow.Author.Needs.{needs}
-use Rattle.std.proofs.shelf.Signed.{toZ-ofZ, ints}
-use native.Mathlib.Omega.{arith}
+use Rattle.std.proofs.shelf.Signed.{toZ-ofZ}
 use Rattle.full.specs.Trades.{paidOf}
 use Rattle.full.proofs.trading.paid.Needs as need
 

@@ -1,6 +1,5 @@
 use borrow.Author.Needs.{needs}
-use Rattle.std.proofs.shelf.Signed.{toZ-ofZ, ints}
-use native.Mathlib.Omega.{arith}
+use Rattle.std.proofs.shelf.Signed.{toZ-ofZ}
 use Rattle.full.specs.Trades.{raisedOf}
 use Rattle.full.proofs.trading.raised.Needs as need
 

@@ -2,7 +2,7 @@ use mathlib.Core.Path.{sym, _∙_}
 use native.Mathlib.Omega.{arith}
 use Rattle.std.proofs.shelf.Maps.{nth-past}
 use Rattle.registers.specs.Images.{countOf, imageRows}
-use Rattle.registers.proofs.Images.{length-imageRows, nth-rowsFrom, room-long}
+use Rattle.registers.proofs.Images.{length-imageRows, nth-rowsFrom}
 use Rattle.registers.proofs.image.row_in.Needs as need
 
 pub returns-then-place-count-of : need.returns-then-place-count-of

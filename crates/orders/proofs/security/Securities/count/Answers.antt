@@ -1,5 +1,5 @@
 use native.Mathlib.Omega.{arith}
-use mathlib.Core.Path.{_≡_, sym, _∙_}
+use mathlib.Core.Path.{_≡_}
 use lib.ListN.{length}
 use Rattle.orders.proofs.Tables.{length-listed}
 use Rattle.orders.proofs.security.Securities.count.Needs as need
