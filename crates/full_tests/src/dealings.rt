@@ -1,5 +1,12 @@
 //! Whole dealings: what covers an order, what trades leave, and the same day over both stores.
 
+use crate::support::check_admit;
+use crate::support::check_announce;
+use crate::support::check_credit;
+use crate::support::check_figures;
+use crate::support::check_open;
+use crate::support::check_trade;
+use crate::support::check_withdraw;
 use crate::market::check_rows;
 use crate::market::finish;
 use crate::market::prepare;
@@ -8,7 +15,6 @@ use crate::support::RESERVE;
 use crate::support::SECURITY;
 use crate::support::buy;
 use crate::support::cash;
-use crate::support::figures_at;
 use crate::support::holding;
 use crate::support::sell;
 use crate::support::told;
@@ -43,27 +49,27 @@ fn purchased(reserve: u16, limit: u64) -> Result<i64, u8> {
 
 #[test]
 fn a_purchase_leaves_the_reserve() -> Result<(), Fail> {
-    check_eq(purchased(200, 201), Ok(1))?;
-    check_eq(purchased(200, 200), Err(10))?;
-    check_eq(purchased(0, 1), Ok(1))?;
-    check_eq(purchased(0, 0), Err(10))?;
-    check_eq(purchased(65_535, 65_536), Ok(1))?;
-    check_eq(purchased(65_535, 65_535), Err(10))
+    check_purchased(200, 201, Ok(1))?;
+    check_purchased(200, 200, Err(10))?;
+    check_purchased(0, 1, Ok(1))?;
+    check_purchased(0, 0, Err(10))?;
+    check_purchased(65_535, 65_536, Ok(1))?;
+    check_purchased(65_535, 65_535, Err(10))
 }
 
 /// Opens cash and a holding for a buyer (701) and a seller (802).
 fn open_registers<S: Store>(engine: &mut Engine<S>, money: u64, pieces: u64) -> Result<(), Fail> {
-    check_eq(told(engine.admit(SECURITY, 1_000)), Ok(1))?;
-    check_eq(told(engine.open(cash(701, money))), Ok(1))?;
-    check_eq(told(engine.open(holding(701, SECURITY, 0))), Ok(2))?;
-    check_eq(told(engine.open(cash(802, 0))), Ok(3))?;
-    check_eq(told(engine.open(holding(802, SECURITY, pieces))), Ok(4))
+    check_admit(engine, SECURITY, 1_000, Ok(1))?;
+    check_open(engine, cash(701, money), Ok(1))?;
+    check_open(engine, holding(701, SECURITY, 0), Ok(2))?;
+    check_open(engine, cash(802, 0), Ok(3))?;
+    check_open(engine, holding(802, SECURITY, pieces), Ok(4))
 }
 
 fn announce_refused<S: Store>(engine: &mut Engine<S>) -> Result<(), Fail> {
     open_registers(engine, 201, 10)?;
-    check_eq(told(engine.open(cash(703, 0))), Ok(5))?;
-    check_eq(told(engine.open(holding(704, SECURITY, 10))), Ok(6))?;
+    check_open(engine, cash(703, 0), Ok(5))?;
+    check_open(engine, holding(704, SECURITY, 10), Ok(6))?;
     let partial = Announcement {
         mode: 2,
         ..sell(1, 802, 1, 50)
@@ -72,14 +78,14 @@ fn announce_refused<S: Store>(engine: &mut Engine<S>) -> Result<(), Fail> {
         security: 6,
         ..sell(1, 802, 1, 50)
     };
-    check_eq(told(engine.announce(partial)), Err(5))?;
-    check_eq(told(engine.announce(sell(1, 802, 0, 50))), Err(5))?;
-    check_eq(told(engine.announce(sell(1, 802, 1, 100_000_001))), Err(5))?;
-    check_eq(told(engine.announce(other)), Err(7))?;
-    check_eq(told(engine.announce(buy(1, 703, 1, 50))), Err(6))?;
-    check_eq(told(engine.announce(sell(1, 704, 1, 50))), Err(6))?;
-    check_eq(told(engine.announce(sell(1, 802, 11, 50))), Err(10))?;
-    check_eq(told(engine.announce(sell(1, 802, 10, 50))), Ok(10))
+    check_announce(engine, partial, Err(5))?;
+    check_announce(engine, sell(1, 802, 0, 50), Err(5))?;
+    check_announce(engine, sell(1, 802, 1, 100_000_001), Err(5))?;
+    check_announce(engine, other, Err(7))?;
+    check_announce(engine, buy(1, 703, 1, 50), Err(6))?;
+    check_announce(engine, sell(1, 704, 1, 50), Err(6))?;
+    check_announce(engine, sell(1, 802, 11, 50), Err(10))?;
+    check_announce(engine, sell(1, 802, 10, 50), Ok(10))
 }
 
 #[test]
@@ -89,9 +95,9 @@ fn announcements_that_are_refused() -> Result<(), Fail> {
     let result = announce_refused(&mut engine);
     let mut store = engine.into_store();
     result?;
-    check_eq(figures_at(&mut store, 0), Some((201, 0, 0)))?;
-    check_eq(figures_at(&mut store, 3), Some((10, 10, 0)))?;
-    check_eq(figures_at(&mut store, 5), Some((10, 0, 0)))
+    check_figures(&mut store, 0, (201, 0, 0))?;
+    check_figures(&mut store, 3, (10, 10, 0))?;
+    check_figures(&mut store, 5, (10, 0, 0))
 }
 
 fn deal(number: u32, quantity: u32, price: u32) -> Deal {
@@ -106,15 +112,15 @@ fn deal(number: u32, quantity: u32, price: u32) -> Deal {
 
 fn trade_in_halves<S: Store>(engine: &mut Engine<S>) -> Result<(), Fail> {
     open_registers(engine, 201, 10)?;
-    check_eq(told(engine.announce(buy(1, 701, 2, 50))), Ok(1))?;
-    check_eq(told(engine.announce(sell(2, 802, 2, 50))), Ok(2))?;
-    check_eq(figures_at(&mut engine.store, 0), Some((201, 1, 0)))?;
-    check_eq(told(engine.trade(deal(1, 1, 50))), Ok(1))?;
-    check_eq(figures_at(&mut engine.store, 0), Some((200, 0, 0)))?;
-    check_eq(told(engine.trade(deal(2, 1, 50))), Ok(1))?;
-    check_eq(figures_at(&mut engine.store, 0), Some((199, -1, 0)))?;
-    check_eq(told(engine.withdraw(1)), Err(11))?;
-    check_eq(told(engine.withdraw(2)), Err(11))
+    check_announce(engine, buy(1, 701, 2, 50), Ok(1))?;
+    check_announce(engine, sell(2, 802, 2, 50), Ok(2))?;
+    check_figures(&mut engine.store, 0, (201, 1, 0))?;
+    check_trade(engine, deal(1, 1, 50), Ok(1))?;
+    check_figures(&mut engine.store, 0, (200, 0, 0))?;
+    check_trade(engine, deal(2, 1, 50), Ok(1))?;
+    check_figures(&mut engine.store, 0, (199, -1, 0))?;
+    check_withdraw(engine, 1, Err(11))?;
+    check_withdraw(engine, 2, Err(11))
 }
 
 #[test]
@@ -124,17 +130,17 @@ fn a_blocked_figure_falls_below_zero() -> Result<(), Fail> {
     let result = trade_in_halves(&mut engine);
     let mut store = engine.into_store();
     result?;
-    check_eq(figures_at(&mut store, 0), Some((199, -1, 0)))?;
-    check_eq(figures_at(&mut store, 1), Some((2, 0, 0)))?;
-    check_eq(figures_at(&mut store, 2), Some((2, 0, 0)))?;
-    check_eq(figures_at(&mut store, 3), Some((8, 0, 0)))
+    check_figures(&mut store, 0, (199, -1, 0))?;
+    check_figures(&mut store, 1, (2, 0, 0))?;
+    check_figures(&mut store, 2, (2, 0, 0))?;
+    check_figures(&mut store, 3, (8, 0, 0))
 }
 
 fn trade_below_the_price<S: Store>(engine: &mut Engine<S>) -> Result<(), Fail> {
     open_registers(engine, 10_200, 100)?;
-    check_eq(told(engine.announce(buy(1, 701, 100, 10_000))), Ok(10_000))?;
-    check_eq(told(engine.announce(sell(2, 802, 100, 9_900))), Ok(100))?;
-    check_eq(told(engine.trade(deal(1, 100, 9_900))), Ok(9_900))
+    check_announce(engine, buy(1, 701, 100, 10_000), Ok(10_000))?;
+    check_announce(engine, sell(2, 802, 100, 9_900), Ok(100))?;
+    check_trade(engine, deal(1, 100, 9_900), Ok(9_900))
 }
 
 #[test]
@@ -144,10 +150,10 @@ fn a_block_is_released_at_its_own_price() -> Result<(), Fail> {
     let result = trade_below_the_price(&mut engine);
     let mut store = engine.into_store();
     result?;
-    check_eq(figures_at(&mut store, 0), Some((300, 0, 0)))?;
-    check_eq(figures_at(&mut store, 1), Some((100, 0, 0)))?;
-    check_eq(figures_at(&mut store, 2), Some((9_900, 0, 0)))?;
-    check_eq(figures_at(&mut store, 3), Some((0, 0, 0)))
+    check_figures(&mut store, 0, (300, 0, 0))?;
+    check_figures(&mut store, 1, (100, 0, 0))?;
+    check_figures(&mut store, 2, (9_900, 0, 0))?;
+    check_figures(&mut store, 3, (0, 0, 0))
 }
 
 fn same_row(left: Row, right: Row) -> bool {
@@ -200,11 +206,11 @@ fn the_same_day_over_both_stores() -> Result<(), Fail> {
 }
 
 fn go_on<S: Store>(engine: &mut Engine<S>) -> Result<(), Fail> {
-    check_eq(told(engine.withdraw(1)), Err(11))?;
-    check_eq(told(engine.credit(701, 0, 1)), Ok(10_102))?;
-    check_eq(told(engine.open(cash(701, 0))), Err(1))?;
-    check_eq(told(engine.admit(SECURITY, 1_000)), Ok(1))?;
-    check_eq(told(engine.announce(sell(1, 802, 90, 50))), Ok(90))
+    check_withdraw(engine, 1, Err(11))?;
+    check_credit(engine, 701, 0, 1, Ok(10_102))?;
+    check_open(engine, cash(701, 0), Err(1))?;
+    check_admit(engine, SECURITY, 1_000, Ok(1))?;
+    check_announce(engine, sell(1, 802, 90, 50), Ok(90))
 }
 
 /// A second engine finds the rows of the image as the first left them, and no orders.
@@ -220,6 +226,6 @@ fn an_image_outlives_its_engine() -> Result<(), Fail> {
     let result = go_on(&mut engine);
     let mut store = engine.into_store();
     result?;
-    check_eq(figures_at(&mut store, 0), Some((10_102, 9_900, 0)))?;
-    check_eq(figures_at(&mut store, 3), Some((299, 299, 0)))
+    check_figures(&mut store, 0, (10_102, 9_900, 0))?;
+    check_figures(&mut store, 3, (299, 299, 0))
 }

@@ -1,12 +1,14 @@
 //! Openings: a full store, and what is refused.
 
+use crate::support::check_admit;
+use crate::support::check_credit;
+use crate::support::check_figures;
+use crate::support::check_open;
 use crate::support::BLANK;
 use crate::support::RESERVE;
 use crate::support::SECURITY;
 use crate::support::cash;
-use crate::support::figures_at;
 use crate::support::holding;
-use crate::support::told;
 use full::engine::Engine;
 use orders::terms::Opening;
 use registers::store::Store;
@@ -15,13 +17,13 @@ use registers::table::RowStoreStore;
 use std::test::*;
 
 fn open_one<S: Store>(engine: &mut Engine<S>) -> Result<(), Fail> {
-    check_eq(told(engine.open(cash(701, 201))), Ok(1))?;
-    check_eq(told(engine.open(cash(702, 0))), Err(2))?;
-    check_eq(told(engine.open(cash(701, 0))), Err(1))?;
-    check_eq(told(engine.open(holding(701, SECURITY, 0))), Err(7))?;
-    check_eq(told(engine.admit(SECURITY, 1_000)), Ok(1))?;
-    check_eq(told(engine.open(holding(701, SECURITY, 0))), Err(2))?;
-    check_eq(told(engine.credit(702, 0, 1)), Err(6))
+    check_open(engine, cash(701, 201), Ok(1))?;
+    check_open(engine, cash(702, 0), Err(2))?;
+    check_open(engine, cash(701, 0), Err(1))?;
+    check_open(engine, holding(701, SECURITY, 0), Err(7))?;
+    check_admit(engine, SECURITY, 1_000, Ok(1))?;
+    check_open(engine, holding(701, SECURITY, 0), Err(2))?;
+    check_credit(engine, 702, 0, 1, Err(6))
 }
 
 #[test]
@@ -32,35 +34,32 @@ fn a_store_with_room_for_one() -> Result<(), Fail> {
     let mut store = engine.into_store();
     result?;
     check_eq(store.count(), 1)?;
-    check_eq(figures_at(&mut store, 0), Some((201, 0, 0)))
+    check_figures(&mut store, 0, (201, 0, 0))
 }
 
 fn open_bad_values<S: Store>(engine: &mut Engine<S>) -> Result<(), Fail> {
     let good = cash(701, 0);
-    check_eq(told(engine.open(Opening { kind: 0, ..good })), Err(5))?;
-    check_eq(told(engine.open(Opening { kind: 3, ..good })), Err(5))?;
-    check_eq(told(engine.open(Opening { margin: 1, ..good })), Err(5))?;
-    check_eq(
-        told(engine.open(Opening {
+    check_open(engine, Opening { kind: 0, ..good }, Err(5))?;
+    check_open(engine, Opening { kind: 3, ..good }, Err(5))?;
+    check_open(engine, Opening { margin: 1, ..good }, Err(5))?;
+    check_open(engine, Opening {
             security: SECURITY,
             ..good
-        })),
-        Err(5),
-    )?;
-    check_eq(told(engine.open(holding(701, 0, 0))), Err(5))?;
-    check_eq(told(engine.open(holding(701, 10_000, 0))), Err(5))?;
-    check_eq(told(engine.open(cash(99, 0))), Err(5))?;
-    check_eq(told(engine.open(cash(1_000_000, 0))), Err(5))?;
-    check_eq(told(engine.open(cash(701, 100_000_000_000_001))), Err(5))
+        }, Err(5))?;
+    check_open(engine, holding(701, 0, 0), Err(5))?;
+    check_open(engine, holding(701, 10_000, 0), Err(5))?;
+    check_open(engine, cash(99, 0), Err(5))?;
+    check_open(engine, cash(1_000_000, 0), Err(5))?;
+    check_open(engine, cash(701, 100_000_000_000_001), Err(5))
 }
 
 fn open_at_the_ends<S: Store>(engine: &mut Engine<S>) -> Result<(), Fail> {
     open_bad_values(engine)?;
-    check_eq(told(engine.admit(9_999, 1_000)), Ok(1))?;
-    check_eq(told(engine.open(cash(100, 0))), Ok(1))?;
-    check_eq(told(engine.open(cash(999_999, 100_000_000_000_000))), Ok(2))?;
-    check_eq(told(engine.open(holding(100, 9_999, 1))), Ok(3))?;
-    check_eq(told(engine.open(holding(100, 9_998, 1))), Err(7))
+    check_admit(engine, 9_999, 1_000, Ok(1))?;
+    check_open(engine, cash(100, 0), Ok(1))?;
+    check_open(engine, cash(999_999, 100_000_000_000_000), Ok(2))?;
+    check_open(engine, holding(100, 9_999, 1), Ok(3))?;
+    check_open(engine, holding(100, 9_998, 1), Err(7))
 }
 
 #[test]
@@ -70,6 +69,6 @@ fn openings_at_the_ends_of_their_ranges() -> Result<(), Fail> {
     let result = open_at_the_ends(&mut engine);
     let mut store = engine.into_store();
     result?;
-    check_eq(figures_at(&mut store, 1), Some((100_000_000_000_000, 0, 0)))?;
-    check_eq(figures_at(&mut store, 2), Some((1, 0, 0)))
+    check_figures(&mut store, 1, (100_000_000_000_000, 0, 0))?;
+    check_figures(&mut store, 2, (1, 0, 0))
 }

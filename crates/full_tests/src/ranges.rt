@@ -1,9 +1,14 @@
 //! Figures at the ends of their ranges, as an image may hold them.
 
+use crate::support::check_admit;
+use crate::support::check_announce;
+use crate::support::check_credit;
+use crate::support::check_figures;
+use crate::support::check_trade;
+use crate::support::check_withdraw;
 use crate::support::RESERVE;
 use crate::support::SECURITY;
 use crate::support::buy;
-use crate::support::figures_at;
 use crate::support::sell;
 use crate::support::told;
 use full::engine::Engine;
@@ -63,37 +68,37 @@ fn credited(figures: Figures, amount: u64) -> Result<i64, u8> {
 
 #[test]
 fn a_credit_to_figures_in_range() -> Result<(), Fail> {
-    check_eq(credited(figures(MOST - 1, 0, 0), 1), Ok(MOST))?;
-    check_eq(credited(figures(MOST, 0, 0), 1), Err(26))?;
-    check_eq(credited(figures(-MOST, 0, 0), 1), Ok(1 - MOST))?;
-    check_eq(credited(figures(0, MOST, 0), 1), Ok(1))?;
-    check_eq(credited(figures(0, -MOST, 0), 1), Ok(1))?;
-    check_eq(credited(figures(MOST - 6, 0, 5), 1), Ok(MOST - 5))?;
-    check_eq(credited(figures(MOST - 5, 0, 5), 1), Err(26))?;
-    check_eq(credited(figures(-MOST, 0, MOST), 1), Ok(1 - MOST))
+    check_credited(figures(MOST - 1, 0, 0), 1, Ok(MOST))?;
+    check_credited(figures(MOST, 0, 0), 1, Err(26))?;
+    check_credited(figures(-MOST, 0, 0), 1, Ok(1 - MOST))?;
+    check_credited(figures(0, MOST, 0), 1, Ok(1))?;
+    check_credited(figures(0, -MOST, 0), 1, Ok(1))?;
+    check_credited(figures(MOST - 6, 0, 5), 1, Ok(MOST - 5))?;
+    check_credited(figures(MOST - 5, 0, 5), 1, Err(26))?;
+    check_credited(figures(-MOST, 0, MOST), 1, Ok(1 - MOST))
 }
 
 #[test]
 fn a_credit_to_figures_out_of_range() -> Result<(), Fail> {
-    check_eq(credited(figures(MOST + 1, 0, 0), 1), Err(25))?;
-    check_eq(credited(figures(-MOST - 1, 0, 0), 1), Err(25))?;
-    check_eq(credited(figures(0, MOST + 1, 0), 1), Err(25))?;
-    check_eq(credited(figures(0, -MOST - 1, 0), 1), Err(25))?;
-    check_eq(credited(figures(0, 0, -1), 1), Err(25))?;
-    check_eq(credited(figures(MOST - 5, 0, 6), 1), Err(25))?;
-    check_eq(credited(figures(0, 0, MOST + 1), 1), Err(25))?;
-    check_eq(credited(figures(i64::MAX, 0, i64::MAX), 1), Err(25))?;
-    check_eq(credited(figures(i64::MIN, 0, 0), 1), Err(25))
+    check_credited(figures(MOST + 1, 0, 0), 1, Err(25))?;
+    check_credited(figures(-MOST - 1, 0, 0), 1, Err(25))?;
+    check_credited(figures(0, MOST + 1, 0), 1, Err(25))?;
+    check_credited(figures(0, -MOST - 1, 0), 1, Err(25))?;
+    check_credited(figures(0, 0, -1), 1, Err(25))?;
+    check_credited(figures(MOST - 5, 0, 6), 1, Err(25))?;
+    check_credited(figures(0, 0, MOST + 1), 1, Err(25))?;
+    check_credited(figures(i64::MAX, 0, i64::MAX), 1, Err(25))?;
+    check_credited(figures(i64::MIN, 0, 0), 1, Err(25))
 }
 
 #[test]
 fn amounts_at_the_ends_of_their_range() -> Result<(), Fail> {
     let zero = figures(0, 0, 0);
-    check_eq(credited(zero, 0), Err(5))?;
-    check_eq(credited(zero, 1), Ok(1))?;
-    check_eq(credited(zero, 100_000_000_000_000), Ok(100_000_000_000_000))?;
-    check_eq(credited(zero, 100_000_000_000_001), Err(5))?;
-    check_eq(credited(figures(MOST + 1, 0, 0), 0), Err(5))
+    check_credited(zero, 0, Err(5))?;
+    check_credited(zero, 1, Ok(1))?;
+    check_credited(zero, 100_000_000_000_000, Ok(100_000_000_000_000))?;
+    check_credited(zero, 100_000_000_000_001, Err(5))?;
+    check_credited(figures(MOST + 1, 0, 0), 0, Err(5))
 }
 
 /// Adds the cash of a buyer (701) and a seller (802) as given, and a holding of 10 for the seller.
@@ -115,15 +120,15 @@ fn deal(number: u32, quantity: u32, price: u32) -> Deal {
 }
 
 fn release_below_the_least<S: Store>(engine: &mut Engine<S>) -> Result<(), Fail> {
-    check_eq(told(engine.admit(SECURITY, 1_000)), Ok(1))?;
-    check_eq(told(engine.announce(buy(1, 701, 2, 50))), Ok(1))?;
-    check_eq(told(engine.announce(sell(2, 802, 2, 50))), Ok(2))?;
-    check_eq(told(engine.trade(deal(1, 1, 50))), Ok(1))?;
-    check_eq(told(engine.trade(deal(2, 1, 50))), Err(26))?;
-    check_eq(told(engine.withdraw(1)), Err(26))?;
-    check_eq(told(engine.withdraw(2)), Ok(1))?;
-    check_eq(told(engine.withdraw(1)), Err(26))?;
-    check_eq(told(engine.credit(701, 0, 1)), Ok(10))
+    check_admit(engine, SECURITY, 1_000, Ok(1))?;
+    check_announce(engine, buy(1, 701, 2, 50), Ok(1))?;
+    check_announce(engine, sell(2, 802, 2, 50), Ok(2))?;
+    check_trade(engine, deal(1, 1, 50), Ok(1))?;
+    check_trade(engine, deal(2, 1, 50), Err(26))?;
+    check_withdraw(engine, 1, Err(26))?;
+    check_withdraw(engine, 2, Ok(1))?;
+    check_withdraw(engine, 1, Err(26))?;
+    check_credit(engine, 701, 0, 1, Ok(10))
 }
 
 /// A purchase of 2 at 50 blocks 1, and each of its halves releases 1.
@@ -137,19 +142,19 @@ fn a_blocked_figure_at_the_least() -> Result<(), Fail> {
     let result = release_below_the_least(&mut engine);
     let mut store = engine.into_store();
     result?;
-    check_eq(figures_at(&mut store, 0), Some((10, -MOST, 0)))?;
-    check_eq(figures_at(&mut store, 1), Some((1, 0, 0)))?;
-    check_eq(figures_at(&mut store, 2), Some((1, 0, 0)))?;
-    check_eq(figures_at(&mut store, 3), Some((9, 0, 0)))
+    check_figures(&mut store, 0, (10, -MOST, 0))?;
+    check_figures(&mut store, 1, (1, 0, 0))?;
+    check_figures(&mut store, 2, (1, 0, 0))?;
+    check_figures(&mut store, 3, (9, 0, 0))
 }
 
 fn pay_above_the_most<S: Store>(engine: &mut Engine<S>) -> Result<(), Fail> {
-    check_eq(told(engine.admit(SECURITY, 1_000)), Ok(1))?;
-    check_eq(told(engine.announce(buy(1, 701, 3, 49))), Ok(1))?;
-    check_eq(told(engine.announce(sell(2, 802, 3, 49))), Ok(3))?;
-    check_eq(told(engine.trade(deal(1, 3, 49))), Err(26))?;
-    check_eq(told(engine.trade(deal(1, 2, 49))), Err(26))?;
-    check_eq(told(engine.trade(deal(1, 1, 49))), Ok(0))
+    check_admit(engine, SECURITY, 1_000, Ok(1))?;
+    check_announce(engine, buy(1, 701, 3, 49), Ok(1))?;
+    check_announce(engine, sell(2, 802, 3, 49), Ok(3))?;
+    check_trade(engine, deal(1, 3, 49), Err(26))?;
+    check_trade(engine, deal(1, 2, 49), Err(26))?;
+    check_trade(engine, deal(1, 1, 49), Ok(0))
 }
 
 /// The seller's cash takes no kopeck more, and 1 at 49 costs none.
@@ -163,19 +168,19 @@ fn a_limit_at_the_most() -> Result<(), Fail> {
     let result = pay_above_the_most(&mut engine);
     let mut store = engine.into_store();
     result?;
-    check_eq(figures_at(&mut store, 0), Some((1_000, 1, 0)))?;
-    check_eq(figures_at(&mut store, 1), Some((MOST, 0, 0)))?;
-    check_eq(figures_at(&mut store, 2), Some((1, 0, 0)))?;
-    check_eq(figures_at(&mut store, 3), Some((9, 2, 0)))
+    check_figures(&mut store, 0, (1_000, 1, 0))?;
+    check_figures(&mut store, 1, (MOST, 0, 0))?;
+    check_figures(&mut store, 2, (1, 0, 0))?;
+    check_figures(&mut store, 3, (9, 2, 0))
 }
 
 fn deal_out_of_range<S: Store>(engine: &mut Engine<S>) -> Result<(), Fail> {
-    check_eq(told(engine.admit(SECURITY, 1_000)), Ok(1))?;
-    check_eq(told(engine.announce(buy(1, 701, 3, 49))), Ok(1))?;
-    check_eq(told(engine.announce(sell(2, 802, 3, 49))), Ok(3))?;
-    check_eq(told(engine.announce(buy(3, 802, 1, 49))), Err(25))?;
-    check_eq(told(engine.trade(deal(1, 1, 49))), Err(25))?;
-    check_eq(told(engine.withdraw(2)), Ok(3))
+    check_admit(engine, SECURITY, 1_000, Ok(1))?;
+    check_announce(engine, buy(1, 701, 3, 49), Ok(1))?;
+    check_announce(engine, sell(2, 802, 3, 49), Ok(3))?;
+    check_announce(engine, buy(3, 802, 1, 49), Err(25))?;
+    check_trade(engine, deal(1, 1, 49), Err(25))?;
+    check_withdraw(engine, 2, Ok(3))
 }
 
 /// The seller's cash is out of range: a sale does not look at it, a purchase and a trade do.
@@ -189,8 +194,8 @@ fn a_limit_above_the_most() -> Result<(), Fail> {
     let result = deal_out_of_range(&mut engine);
     let mut store = engine.into_store();
     result?;
-    check_eq(figures_at(&mut store, 0), Some((1_000, 1, 0)))?;
-    check_eq(figures_at(&mut store, 1), Some((MOST + 1, 0, 0)))?;
-    check_eq(figures_at(&mut store, 2), Some((0, 0, 0)))?;
-    check_eq(figures_at(&mut store, 3), Some((10, 0, 0)))
+    check_figures(&mut store, 0, (1_000, 1, 0))?;
+    check_figures(&mut store, 1, (MOST + 1, 0, 0))?;
+    check_figures(&mut store, 2, (0, 0, 0))?;
+    check_figures(&mut store, 3, (10, 0, 0))
 }

@@ -1,13 +1,13 @@
 //! The refusals of a trade, in the order of their checks. After each the market goes on as if nothing
 //! had been tried.
 
+use crate::support::check_trade;
 use crate::market::GOOD;
 use crate::market::check_rows;
 use crate::market::finish;
 use crate::market::prepare;
 use crate::support::BLANK;
 use crate::support::RESERVE;
-use crate::support::told;
 use full::engine::Engine;
 use orders::terms::Deal;
 use registers::store::Store;
@@ -17,7 +17,7 @@ use std::test::*;
 
 fn try_deal<S: Store>(engine: &mut Engine<S>, deal: Deal, number: u8) -> Result<(), Fail> {
     prepare(engine)?;
-    check_eq(told(engine.trade(deal)), Err(number))?;
+    check_trade(engine, deal, Err(number))?;
     finish(engine)
 }
 
