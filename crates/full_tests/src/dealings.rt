@@ -1,12 +1,5 @@
 //! Whole dealings: what covers an order, what trades leave, and the same day over both stores.
 
-use crate::support::check_admit;
-use crate::support::check_announce;
-use crate::support::check_credit;
-use crate::support::check_figures;
-use crate::support::check_open;
-use crate::support::check_trade;
-use crate::support::check_withdraw;
 use crate::market::check_rows;
 use crate::market::finish;
 use crate::market::prepare;
@@ -15,11 +8,16 @@ use crate::support::RESERVE;
 use crate::support::SECURITY;
 use crate::support::buy;
 use crate::support::cash;
+use crate::support::check_admit;
+use crate::support::check_announce;
+use crate::support::check_credit;
+use crate::support::check_figures;
+use crate::support::check_open;
+use crate::support::check_trade;
+use crate::support::check_withdraw;
 use crate::support::holding;
 use crate::support::sell;
-use crate::support::told;
 use full::engine::Engine;
-use orders::refusal::Refusal;
 use orders::terms::Announcement;
 use orders::terms::Deal;
 use registers::image;
@@ -31,20 +29,24 @@ use registers::table::RowStore;
 use registers::table::RowStoreStore;
 use std::test::*;
 
-fn purchase<S: Store>(engine: &mut Engine<S>, limit: u64) -> Result<i64, Refusal> {
-    engine.admit(SECURITY, 1_000)?;
-    engine.open(cash(701, limit))?;
-    engine.open(holding(701, SECURITY, 0))?;
-    engine.announce(buy(1, 701, 2, 50))
+fn purchase<S: Store>(
+    engine: &mut Engine<S>,
+    limit: u64,
+    expected: Result<i64, u8>,
+) -> Result<(), Fail> {
+    check_admit(engine, SECURITY, 1_000, Ok(1))?;
+    check_open(engine, cash(701, limit), Ok(1))?;
+    check_open(engine, holding(701, SECURITY, 0), Ok(2))?;
+    check_announce(engine, buy(1, 701, 2, 50), expected)
 }
 
-/// What a purchase of 2 at 50, which cost 1, answers under a reserve and a limit.
-fn purchased(reserve: u16, limit: u64) -> Result<i64, u8> {
+/// Announces a purchase of 2 at 50, which costs 1, under a reserve and a limit.
+fn check_purchased(reserve: u16, limit: u64, expected: Result<i64, u8>) -> Result<(), Fail> {
     let mut table = [BLANK; 2];
     let mut engine = Engine::new(RowStore::new(&mut table), reserve);
-    let answer = told(purchase(&mut engine, limit));
+    let result = purchase(&mut engine, limit, expected);
     let _store = engine.into_store();
-    answer
+    result
 }
 
 #[test]

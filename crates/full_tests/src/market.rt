@@ -1,14 +1,14 @@
 //! A market to trade in: a buyer, a seller, five orders and one trade.
 
+use crate::support::SECURITY;
+use crate::support::buy;
+use crate::support::cash;
 use crate::support::check_admit;
 use crate::support::check_announce;
 use crate::support::check_figures;
 use crate::support::check_open;
 use crate::support::check_trade;
 use crate::support::check_withdraw;
-use crate::support::SECURITY;
-use crate::support::buy;
-use crate::support::cash;
 use crate::support::holding;
 use crate::support::sell;
 use full::engine::Engine;

@@ -1,15 +1,15 @@
 //! The numbers of orders and trades, from 1 to 4,294,967,295.
 
-use crate::support::check_admit;
-use crate::support::check_announce;
-use crate::support::check_open;
-use crate::support::check_trade;
-use crate::support::check_withdraw;
 use crate::support::BLANK;
 use crate::support::RESERVE;
 use crate::support::SECURITY;
 use crate::support::buy;
 use crate::support::cash;
+use crate::support::check_admit;
+use crate::support::check_announce;
+use crate::support::check_open;
+use crate::support::check_trade;
+use crate::support::check_withdraw;
 use crate::support::holding;
 use crate::support::sell;
 use full::engine::Engine;

@@ -1,13 +1,13 @@
 //! Openings: a full store, and what is refused.
 
-use crate::support::check_admit;
-use crate::support::check_credit;
-use crate::support::check_figures;
-use crate::support::check_open;
 use crate::support::BLANK;
 use crate::support::RESERVE;
 use crate::support::SECURITY;
 use crate::support::cash;
+use crate::support::check_admit;
+use crate::support::check_credit;
+use crate::support::check_figures;
+use crate::support::check_open;
 use crate::support::holding;
 use full::engine::Engine;
 use orders::terms::Opening;
@@ -42,10 +42,14 @@ fn open_bad_values<S: Store>(engine: &mut Engine<S>) -> Result<(), Fail> {
     check_open(engine, Opening { kind: 0, ..good }, Err(5))?;
     check_open(engine, Opening { kind: 3, ..good }, Err(5))?;
     check_open(engine, Opening { margin: 1, ..good }, Err(5))?;
-    check_open(engine, Opening {
+    check_open(
+        engine,
+        Opening {
             security: SECURITY,
             ..good
-        }, Err(5))?;
+        },
+        Err(5),
+    )?;
     check_open(engine, holding(701, 0, 0), Err(5))?;
     check_open(engine, holding(701, 10_000, 0), Err(5))?;
     check_open(engine, cash(99, 0), Err(5))?;

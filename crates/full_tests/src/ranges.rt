@@ -1,16 +1,15 @@
 //! Figures at the ends of their ranges, as an image may hold them.
 
+use crate::support::RESERVE;
+use crate::support::SECURITY;
+use crate::support::buy;
 use crate::support::check_admit;
 use crate::support::check_announce;
 use crate::support::check_credit;
 use crate::support::check_figures;
 use crate::support::check_trade;
 use crate::support::check_withdraw;
-use crate::support::RESERVE;
-use crate::support::SECURITY;
-use crate::support::buy;
 use crate::support::sell;
-use crate::support::told;
 use full::engine::Engine;
 use orders::terms::Deal;
 use registers::image;
@@ -54,16 +53,16 @@ fn holding_row(code: u32, figures: Figures) -> Row {
     }
 }
 
-/// What a credit answers where the image holds one cash register with these figures.
-fn credited(figures: Figures, amount: u64) -> Result<i64, u8> {
+/// Credits an amount where the image holds one cash register with these figures.
+fn check_credited(figures: Figures, amount: u64, expected: Result<i64, u8>) -> Result<(), Fail> {
     let mut bytes = [0; 38];
-    let _ = image::format(&mut bytes);
+    check(image::format(&mut bytes))?;
     let mut store = ImageStore::new(&mut bytes);
-    let _ = store.add(cash_row(701, figures));
+    check(store.add(cash_row(701, figures)).is_ok())?;
     let mut engine = Engine::new(store, RESERVE);
-    let answer = told(engine.credit(701, 0, amount));
+    let result = check_credit(&mut engine, 701, 0, amount, expected);
     let _store = engine.into_store();
-    answer
+    result
 }
 
 #[test]

@@ -1,13 +1,16 @@
-//! What the tests share: arguments of calls, and their answers and rows in a form to compare.
+//! What the tests share: arguments of calls, and checks of what calls answer and of what rows hold.
 
+use full::engine::Engine;
 use orders::order::Side;
 use orders::refusal::Refusal;
 use orders::terms::Announcement;
+use orders::terms::Deal;
 use orders::terms::Opening;
 use registers::row::Figures;
 use registers::row::Key;
 use registers::row::Row;
 use registers::store::Store;
+use std::test::*;
 
 /// The reserve that most tests have, in kopecks.
 pub const RESERVE: u16 = 200;
@@ -29,18 +32,78 @@ pub const BLANK: Row = Row {
     },
 };
 
-/// A call's answer, or the number of its refusal.
-pub fn told(answer: Result<i64, Refusal>) -> Result<i64, u8> {
+/// Compares a call's answer, or the number of its refusal, with what is expected.
+fn check_answer(answer: Result<i64, Refusal>, expected: Result<i64, u8>) -> Result<(), Fail> {
     match answer {
-        Ok(value) => Ok(value),
-        Err(refusal) => Err(refusal.number()),
+        Ok(value) => check_eq(Ok(value), expected),
+        Err(refusal) => check_eq(Err(refusal.number()), expected),
     }
 }
 
-/// The limit, the blocked figure and the third at a place.
-pub fn figures_at<S: Store>(store: &mut S, place: usize) -> Option<(i64, i64, i64)> {
-    let row = store.row(place)?;
-    Some((row.figures.limit, row.figures.blocked, row.figures.third))
+pub fn check_admit<S: Store>(
+    engine: &mut Engine<S>,
+    security: u16,
+    ratio: u16,
+    expected: Result<i64, u8>,
+) -> Result<(), Fail> {
+    check_answer(engine.admit(security, ratio), expected)
+}
+
+pub fn check_open<S: Store>(
+    engine: &mut Engine<S>,
+    opening: Opening,
+    expected: Result<i64, u8>,
+) -> Result<(), Fail> {
+    check_answer(engine.open(opening), expected)
+}
+
+pub fn check_credit<S: Store>(
+    engine: &mut Engine<S>,
+    code: u32,
+    security: u16,
+    amount: u64,
+    expected: Result<i64, u8>,
+) -> Result<(), Fail> {
+    check_answer(engine.credit(code, security, amount), expected)
+}
+
+pub fn check_announce<S: Store>(
+    engine: &mut Engine<S>,
+    announcement: Announcement,
+    expected: Result<i64, u8>,
+) -> Result<(), Fail> {
+    check_answer(engine.announce(announcement), expected)
+}
+
+pub fn check_withdraw<S: Store>(
+    engine: &mut Engine<S>,
+    number: u32,
+    expected: Result<i64, u8>,
+) -> Result<(), Fail> {
+    check_answer(engine.withdraw(number), expected)
+}
+
+pub fn check_trade<S: Store>(
+    engine: &mut Engine<S>,
+    deal: Deal,
+    expected: Result<i64, u8>,
+) -> Result<(), Fail> {
+    check_answer(engine.trade(deal), expected)
+}
+
+/// Compares the limit, the blocked figure and the third at a place with what is expected.
+pub fn check_figures<S: Store>(
+    store: &mut S,
+    place: usize,
+    expected: (i64, i64, i64),
+) -> Result<(), Fail> {
+    match store.row(place) {
+        Some(row) => check_eq(
+            (row.figures.limit, row.figures.blocked, row.figures.third),
+            expected,
+        ),
+        None => Err(Fail::new("no such row")),
+    }
 }
 
 /// The opening of an account's cash.

@@ -1,14 +1,14 @@
 //! Tables that are full: 64 securities and 256 live orders.
 
+use crate::support::BLANK;
+use crate::support::RESERVE;
+use crate::support::SECURITY;
+use crate::support::cash;
 use crate::support::check_admit;
 use crate::support::check_announce;
 use crate::support::check_figures;
 use crate::support::check_open;
 use crate::support::check_withdraw;
-use crate::support::BLANK;
-use crate::support::RESERVE;
-use crate::support::SECURITY;
-use crate::support::cash;
 use crate::support::holding;
 use crate::support::sell;
 use full::engine::Engine;

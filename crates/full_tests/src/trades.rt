@@ -1,13 +1,13 @@
 //! The refusals of a trade, in the order of their checks. After each the market goes on as if nothing
 //! had been tried.
 
-use crate::support::check_trade;
 use crate::market::GOOD;
 use crate::market::check_rows;
 use crate::market::finish;
 use crate::market::prepare;
 use crate::support::BLANK;
 use crate::support::RESERVE;
+use crate::support::check_trade;
 use full::engine::Engine;
 use orders::terms::Deal;
 use registers::store::Store;
