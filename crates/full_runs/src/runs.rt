@@ -1,10 +1,13 @@
 //! Carrying out calls.
 
 ghost use mathlib.Core.Path.{_≡_};
-ghost use mathlib.Core.List.{_++_};
+ghost use mathlib.Core.List.{[], _++_};
+ghost use Prim.Native.Nat.{ℕ};
 ghost use lib.ListN.{length, take, drop};
 ghost use Rattle.full.specs.Plans.{stateOf, Done};
 ghost use Rattle.full_runs.specs.Runs.{callOf, outcomesOf, stateAfter, begin};
+ghost use Rattle.full_runs.specs.Tally.{empty, tallied};
+ghost use Rattle.full_runs.specs.Law.{Law};
 use crate::call::Call;
 use full::engine::Engine;
 use orders::refusal::Refusal;
@@ -31,6 +34,10 @@ pub fn carry_out<S: Store>(engine: &mut Engine<S>, call: Call) -> Result<i64, Re
 /// Builds an engine over a store and carries out the calls, in their order, as many as there are
 /// places for outcomes; each outcome is told in its place, and places behind them stay. The engine is
 /// handed out as the last call left it.
+///
+/// Every call is answered or refused, and moves the state, as its plan says. If the store was empty, the
+/// law holds after each call, also where some are refused: between the state and a tally that was fed
+/// the calls and their outcomes alone.
 pub fn run<S: Store>(
     store: S,
     reserve: u16,
@@ -39,6 +46,8 @@ pub fn run<S: Store>(
 ) -> Engine<S>
     ensures told { λ _. ⌜ now (outcomes .exit) ≡ outcomesOf (begin (S·Store .rows store) (S·Store .capacity store) reserve) (take (length (now (outcomes .entry))) (now (calls .entry))) ++ drop (length (now (calls .entry))) (now (outcomes .entry)) ⌝ }
     ensures left { λ r. ⌜ stateOf (S·Store .rows) (S·Store .capacity) r ≡ stateAfter (begin (S·Store .rows store) (S·Store .capacity store) reserve) (take (length (now (outcomes .entry))) (now (calls .entry))) ⌝ }
+    ensures law { λ _. ⌜ (S·Store .rows store ≡ [] → (n : ℕ) → Law reserve (tallied empty (take n (take (length (now (outcomes .entry))) (now (calls .entry)))) (now (outcomes .exit))) (stateAfter (begin (S·Store .rows store) (S·Store .capacity store) reserve) (take n (take (length (now (outcomes .entry))) (now (calls .entry)))))) ⌝ }
+    ensures kept { λ r. ⌜ (S·Store .rows store ≡ [] → Law reserve (tallied empty (take (length (now (outcomes .entry))) (now (calls .entry))) (now (outcomes .exit))) (stateOf (S·Store .rows) (S·Store .capacity) r)) ⌝ }
 {
     let mut engine = Engine::new(store, reserve);
     let count = calls.len().min(outcomes.len());

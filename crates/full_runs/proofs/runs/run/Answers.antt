@@ -1,13 +1,10 @@
 use borrow.Author.Needs.{needs}
 use native.Mathlib.Omega.{arith}
-use mathlib.Core.Path.{_≡_, ap, _∙_}
-use mathlib.Core.List.{List, _++_}
+use mathlib.Core.Path.{_≡_}
 use lib.ListN.{length, take, drop}
-use lib.IntN.{ℤ}
-use Rattle.std.specs.declared.result.Result.{Result}
-use Rattle.orders.specs.declared.refusal.Refusal.{Refusal}
 use Rattle.full.specs.Plans.{State, stateOf}
-use Rattle.full_runs.specs.Runs.{outcomesOf, stateAfter, begin}
+use Rattle.full_runs.specs.Runs.{begin}
+use Rattle.full_runs.proofs.Laws.{finished}
 use Rattle.full_runs.proofs.Prefixes.{told-none, told-more, told-all}
 use Rattle.full_runs.proofs.runs.run.Needs as need
 
@@ -24,7 +21,5 @@ returns g c =
     let s0 : State = stateOf (g .S·Store .rows) (g .S·Store .capacity) (c .new-engine .result) in
     let b : s0 ≡ begin (g .S·Store .rows (c .args .store)) (g .S·Store .capacity (c .args .store)) (c .args .reserve) = search needs in
     let t = told-all s0 (c .args .calls .now) (c .args .outcomes .now) (c .loop-i .i) (stateOf (g .S·Store .rows) (g .S·Store .capacity) (c .loop-i .engine)) (c .loop-i .outcomes) (omega arith) (c .loop-i .inv) in
-    record {
-      told = t .0 ∙ ap (λ (s : State). outcomesOf s (take (length (c .args .outcomes .now)) (c .args .calls .now)) ++ drop (length (c .args .calls .now)) (c .args .outcomes .now)) b;
-      left = t .1 ∙ ap (λ (s : State). stateAfter s (take (length (c .args .outcomes .now)) (c .args .calls .now))) b;
-    }
+    let f = finished (g .S·Store .rows (c .args .store)) (g .S·Store .capacity (c .args .store)) (c .args .reserve) (take (length (c .args .outcomes .now)) (c .args .calls .now)) (drop (length (c .args .calls .now)) (c .args .outcomes .now)) s0 (stateOf (g .S·Store .rows) (g .S·Store .capacity) (c .loop-i .engine)) (c .loop-i .outcomes) b (t .0) (t .1) in
+    record { told = f .told; left = f .state; law = f .law; kept = f .kept }
