@@ -128,8 +128,8 @@ impl<S: Store> Engine<S> {
     /// Carries out a trade between two live orders with full collateral; answers its money. Both rests
     /// fall by the quantity, the securities and the money change hands, and the block of the quantity
     /// at each order's own price is released. Refuses as `pair` does (5, 12, 11, 13 to 17), then a pair
-    /// of orders in partial mode (5), an account whose cash or holding is not open (6), figures out of range (25) and figures that would
-    /// leave it (26).
+    /// of orders in partial mode (5), an account whose cash or holding is not open (6), figures out of
+    /// range (25) and figures that would leave it (26).
     pub fn trade(&mut self, d: Deal) -> Result<i64, Refusal>
         ensures { λ r. ⌜ Done (tradeOf (stateOf (S·Store .rows) (S·Store .capacity) (now (self .entry))) d) (stateOf (S·Store .rows) (S·Store .capacity) (now (self .entry))) (stateOf (S·Store .rows) (S·Store .capacity) (now (self .exit))) r ⌝ }
     {
