@@ -58,7 +58,7 @@ fn announce_orders<S: Store>(engine: &mut Engine<S>) -> Result<(), Fail> {
 }
 
 /// Opens five registers, announces five orders, and trades 1 of the buyer's 100 under number 7.
-pub fn prepare<S: Store>(engine: &mut Engine<S>) -> Result<(), Fail> {
+pub(crate) fn prepare<S: Store>(engine: &mut Engine<S>) -> Result<(), Fail> {
     open_registers(engine)?;
     announce_orders(engine)?;
     let first = Deal {
@@ -70,14 +70,14 @@ pub fn prepare<S: Store>(engine: &mut Engine<S>) -> Result<(), Fail> {
 }
 
 /// Makes the good deal, which ends the buyer's order and leaves 50 of the seller's 150 to withdraw.
-pub fn finish<S: Store>(engine: &mut Engine<S>) -> Result<(), Fail> {
+pub(crate) fn finish<S: Store>(engine: &mut Engine<S>) -> Result<(), Fail> {
     check_trade(engine, GOOD, Ok(9_801))?;
     check_withdraw(engine, 1, Err(11))?;
     check_withdraw(engine, 2, Ok(50))
 }
 
 /// Checks every row as the market leaves it once it is finished.
-pub fn check_rows<S: Store>(store: &mut S) -> Result<(), Fail> {
+pub(crate) fn check_rows<S: Store>(store: &mut S) -> Result<(), Fail> {
     check_eq(store.count(), 5)?;
     check_figures(store, 0, (300, 0, 0))?;
     check_figures(store, 1, (9_900, 0, 0))?;

@@ -40,7 +40,7 @@ fn check_answer(answer: Result<i64, Refusal>, expected: Result<i64, u8>) -> Resu
     }
 }
 
-pub fn check_admit<S: Store>(
+pub(crate) fn check_admit<S: Store>(
     engine: &mut Engine<S>,
     security: u16,
     ratio: u16,
@@ -49,7 +49,7 @@ pub fn check_admit<S: Store>(
     check_answer(engine.admit(security, ratio), expected)
 }
 
-pub fn check_open<S: Store>(
+pub(crate) fn check_open<S: Store>(
     engine: &mut Engine<S>,
     opening: Opening,
     expected: Result<i64, u8>,
@@ -57,7 +57,7 @@ pub fn check_open<S: Store>(
     check_answer(engine.open(opening), expected)
 }
 
-pub fn check_credit<S: Store>(
+pub(crate) fn check_credit<S: Store>(
     engine: &mut Engine<S>,
     code: u32,
     security: u16,
@@ -67,7 +67,7 @@ pub fn check_credit<S: Store>(
     check_answer(engine.credit(code, security, amount), expected)
 }
 
-pub fn check_announce<S: Store>(
+pub(crate) fn check_announce<S: Store>(
     engine: &mut Engine<S>,
     announcement: Announcement,
     expected: Result<i64, u8>,
@@ -75,7 +75,7 @@ pub fn check_announce<S: Store>(
     check_answer(engine.announce(announcement), expected)
 }
 
-pub fn check_withdraw<S: Store>(
+pub(crate) fn check_withdraw<S: Store>(
     engine: &mut Engine<S>,
     number: u32,
     expected: Result<i64, u8>,
@@ -83,7 +83,7 @@ pub fn check_withdraw<S: Store>(
     check_answer(engine.withdraw(number), expected)
 }
 
-pub fn check_trade<S: Store>(
+pub(crate) fn check_trade<S: Store>(
     engine: &mut Engine<S>,
     deal: Deal,
     expected: Result<i64, u8>,
@@ -92,7 +92,7 @@ pub fn check_trade<S: Store>(
 }
 
 /// Compares the limit, the blocked figure and the third at a place with what is expected.
-pub fn check_figures<S: Store>(
+pub(crate) fn check_figures<S: Store>(
     store: &mut S,
     place: usize,
     expected: (i64, i64, i64),
@@ -107,7 +107,7 @@ pub fn check_figures<S: Store>(
 }
 
 /// The opening of an account's cash.
-pub fn cash(code: u32, limit: u64) -> Opening {
+pub(crate) fn cash(code: u32, limit: u64) -> Opening {
     Opening {
         kind: 1,
         code,
@@ -118,7 +118,7 @@ pub fn cash(code: u32, limit: u64) -> Opening {
 }
 
 /// The opening of an account's holding.
-pub fn holding(code: u32, security: u16, limit: u64) -> Opening {
+pub(crate) fn holding(code: u32, security: u16, limit: u64) -> Opening {
     Opening {
         kind: 2,
         code,
@@ -129,7 +129,7 @@ pub fn holding(code: u32, security: u16, limit: u64) -> Opening {
 }
 
 /// A purchase with full collateral.
-pub fn buy(number: u32, account: u32, quantity: u32, price: u32) -> Announcement {
+pub(crate) fn buy(number: u32, account: u32, quantity: u32, price: u32) -> Announcement {
     Announcement {
         side: Side::Buy,
         mode: 1,
@@ -142,7 +142,7 @@ pub fn buy(number: u32, account: u32, quantity: u32, price: u32) -> Announcement
 }
 
 /// A sale with full collateral.
-pub fn sell(number: u32, account: u32, quantity: u32, price: u32) -> Announcement {
+pub(crate) fn sell(number: u32, account: u32, quantity: u32, price: u32) -> Announcement {
     Announcement {
         side: Side::Sell,
         mode: 1,

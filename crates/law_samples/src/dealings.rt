@@ -40,7 +40,7 @@ fn trade(number: u32, buy: u32, quantity: u32, price: u32) -> Call {
 
 /// Two registers each of a buyer and a seller; three orders; trades that leave a rest and trades that
 /// do not; a withdrawal; and calls that are refused.
-pub fn dealings() -> [Call; 16] {
+pub(crate) fn dealings() -> [Call; 16] {
     [
         Call::Admit {
             security: 5,

@@ -50,7 +50,7 @@ fn cost(quantity: u32, price: u32) -> u64 {
 
 impl Note {
     /// The quantity less the traded parts, less what was given back.
-    pub fn rest(self) -> u32 {
+    pub(crate) fn rest(self) -> u32 {
         self.announced
             .quantity
             .saturating_sub(self.traded)
@@ -58,7 +58,7 @@ impl Note {
     }
 
     /// The register that the order's block lies on.
-    pub fn key(self) -> Key {
+    pub(crate) fn key(self) -> Key {
         match self.announced.side {
             Side::Buy => cash_key(self.announced.account),
             Side::Sell => holding_key(self.announced.account, self.announced.security),
@@ -66,7 +66,7 @@ impl Note {
     }
 
     /// The block of the order's rest.
-    pub fn block(self) -> u64 {
+    pub(crate) fn block(self) -> u64 {
         match self.announced.side {
             Side::Buy => cost(self.rest(), self.announced.price),
             Side::Sell => u64::from(self.rest()),
@@ -76,7 +76,7 @@ impl Note {
 
 impl Tally {
     /// The tally of no calls.
-    pub fn new() -> Tally {
+    pub(crate) fn new() -> Tally {
         Tally {
             opened: [None; 8],
             notes: [None; 8],
@@ -156,7 +156,7 @@ impl Tally {
     }
 
     /// Notes an accepted call.
-    pub fn enter(&mut self, call: Call) {
+    pub(crate) fn enter(&mut self, call: Call) {
         match call {
             Call::Open(
                 Opening {
@@ -182,7 +182,7 @@ impl Tally {
     }
 
     /// The blocks of the rests on a register.
-    pub fn live_blocks(&self, key: Key) -> u64 {
+    pub(crate) fn live_blocks(&self, key: Key) -> u64 {
         let mut sum: u64 = 0;
         for i in 0..8 {
             if let Some(note) = self.notes[i] {
@@ -195,7 +195,7 @@ impl Tally {
     }
 
     /// The register of a key as it was opened.
-    pub fn opened_as(&self, key: Key) -> Option<Opened> {
+    pub(crate) fn opened_as(&self, key: Key) -> Option<Opened> {
         let mut found = None;
         for i in 0..8 {
             if let Some(opened) = self.opened[i] {
@@ -210,7 +210,7 @@ impl Tally {
 
 impl Opened {
     /// By how many kopecks the blocked figure may be off: none for securities.
-    pub fn allowance(self) -> u32 {
+    pub(crate) fn allowance(self) -> u32 {
         if self.key.kind == 1 { self.times } else { 0 }
     }
 }
