@@ -2,6 +2,7 @@
 //!
 //! A field is named by the place of its first byte. Where it does not lie within the slice, reading
 //! answers `None`, and writing answers `false` and leaves every byte as it stood.
+#![tactic(auto)]
 
 ghost use Rattle.std.specs.Prelude.{◌≡◌, ◌+◌, ◌*◌, ◌^◌, ◌<◌, ◌≤◌, length, IfSome, nat_le};
 ghost use Rattle.std.specs.Int.{w64};

@@ -1,5 +1,6 @@
 //! Reads a day file from standard input, carries it out over an empty store of 1,024 rows, and prints
 //! its listing.
+#![tactic(auto)]
 
 use dayfile::listing::listing;
 use registers::row::BLANK;

@@ -1,4 +1,5 @@
 //! Day files: the header, the records in their order, each with its place, and the faults.
+#![tactic(auto)]
 
 pub mod cursor;
 pub mod fault;

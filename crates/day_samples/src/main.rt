@@ -1,6 +1,7 @@
 //! Lists the sample days that its arguments name, and holds each listing to the one that was worked
 //! out beforehand. A day is the file NAME.day, its listing NAME.listing, and NAME.txt, where there is one,
 //! the same day in hex with remarks.
+#![tactic(auto)]
 
 mod source;
 

@@ -1,4 +1,5 @@
 //! Day files carried out: a record becomes a call of the engine, and each gives one line of the listing.
+#![tactic(auto)]
 
 pub mod calls;
 pub mod carrying;

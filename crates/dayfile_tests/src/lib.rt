@@ -1,4 +1,5 @@
 //! Tests of day files at their edges.
+#![tactic(auto)]
 
 #[cfg(test)]
 mod lengths;

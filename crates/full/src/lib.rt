@@ -1,4 +1,5 @@
 //! Level One: the engine under full collateral, over any store.
+#![tactic(auto)]
 
 pub mod calls;
 pub mod engine;

@@ -1,4 +1,5 @@
 //! Whole runs of Level One: a list of calls on one engine.
+#![tactic(auto)]
 
 pub mod call;
 pub mod runs;

@@ -1,5 +1,6 @@
 //! Tests of the engine under full collateral: tables that are full, numbers and figures at the ends of
 //! their ranges, refusals in their order, and whole dealings over both stores.
+#![tactic(auto)]
 
 #[cfg(test)]
 mod dealings;

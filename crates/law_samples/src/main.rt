@@ -1,5 +1,6 @@
 //! Runs lists of calls over both stores and prints the engine's figures beside the tally's, so that
 //! the law over whole runs can be seen to hold.
+#![tactic(auto)]
 
 mod dealings;
 mod tally;

@@ -1,5 +1,6 @@
 //! Orders: what an order and its block are, the order book, admitted securities, the engine's refusals,
 //! and the checks of calls up to the registers.
+#![tactic(auto)]
 
 pub mod blocks;
 pub mod book;

@@ -1,4 +1,5 @@
 //! Limit registers: amounts, rows, the store of rows as an interface, and two stores.
+#![tactic(auto)]
 
 pub mod amounts;
 pub mod fault;

@@ -1,4 +1,5 @@
 //! Tests of the registers crate at the edges of rooms, counts and figures.
+#![tactic(auto)]
 
 #[cfg(test)]
 mod tests {

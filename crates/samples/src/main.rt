@@ -1,4 +1,5 @@
 //! Runs the sample dealings and prints what each step did.
+#![tactic(auto)]
 
 mod amounts;
 mod damage;

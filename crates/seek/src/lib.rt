@@ -1,4 +1,5 @@
 //! One search for every table of records that bear a key.
+#![tactic(auto)]
 
 ghost use Rattle.std.specs.Prelude.{◌≡◌, ◌<◌, Bool, true, List, length, IfSome, slice_index_or};
 ghost use Rattle.std.specs.List.{slice_get};
