@@ -10,10 +10,10 @@ done k at n w s ys h e is = ap (λ (j : ℕ). put_mid at j s ys) e ∙ ap (put_m
 
 pub returns : goal.returns
 returns c =
-    let h : c.args.width + c.args.at ≤ length c.args.bytes.now = leb-true _ _ (sym c.if-not-lies-within.ensures) in
-    let low : c.copy-from-slice.new.self ≡ bytes_of c.args.width c.args.value =
-    low_bytes c.args.width (8 - c.args.width) c.args.value c.to-be-bytes-all.result _ (omega arith) (c.to-be-bytes-all.ensures ∙ eight_bytes c.args.value) c.copy-from-slice.ensures.after in
+    let h : c.args.width + c.args.at ≤ length c.args.bytes.now = leb-true _ _ (sym c.if-not-lies_within.ensures) in
+    let low : c.copy_from_slice.new.self ≡ bytes_of c.args.width c.args.value =
+    low_bytes c.args.width (8 - c.args.width) c.args.value c.to_be_bytes-all.result _ (omega arith) (c.to_be_bytes-all.ensures ∙ eight_bytes c.args.value) c.copy_from_slice.ensures.after in
     record {
-      answer = c.if-not-lies-within.ensures;
+      answer = c.if-not-lies_within.ensures;
       after = done c.args.width c.args.at c.args.value _ c.args.bytes.now _ h (omega arith) low;
     }

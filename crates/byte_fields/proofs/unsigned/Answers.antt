@@ -16,11 +16,11 @@ room n i b h k l =
     let p : 256 ^ (i + 1) ≤ 256 ^ 8 = pow-le-pow_right (omega arith) j in
     omega (arith, step n i b h k)
 
-pub overflow-mul-n : goal.overflow-mul-n
-overflow-mul-n c = omega (arith, room c.loop-b.n c.loop-b.b-index 0 c.loop-b.invariant.1 (omega arith) (omega arith))
+pub overflow_mul-n : goal.overflow_mul-n
+overflow_mul-n c = omega (arith, room c.loop-b.n c.loop-b.b-index 0 c.loop-b.invariant.1 (omega arith) (omega arith))
 
-pub overflow-add-n : goal.overflow-add-n
-overflow-add-n c = omega (arith, room c.loop-b.n c.loop-b.b-index c.from.result c.loop-b.invariant.1 (omega arith) (omega arith))
+pub overflow_add-n : goal.overflow_add-n
+overflow_add-n c = omega (arith, room c.loop-b.n c.loop-b.b-index c.from.result c.loop-b.invariant.1 (omega arith) (omega arith))
 
 pub loop-b-preserved : goal.loop-b-preserved
 loop-b-preserved c = (

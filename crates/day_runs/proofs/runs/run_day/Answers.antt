@@ -17,5 +17,5 @@ returns g c =
     let s0 : State = state_of g.S.Store.rows g.S.Store.capacity c.new-engine.result in
     let b : s0 ≡ begin (g.S.Store.rows c.args.store) (g.S.Store.capacity c.args.store) c.in-Ok.day.reserve = search rules in
     let b' = begun _ _ c.args.file.now c.in-Ok.day.reserve s0 c.in-Ok.ensures.header b in
-    let f = ran _ _ c.args.file.now s (ended _ _ c.args.file.now s s0 c.loop-told.records.place _ c.loop-told.invariant.0 c.in-default.ensures.answer c.loop-told.invariant.1 b') in
+    let f = ran _ _ c.args.file.now s (ended _ _ c.args.file.now s s0 c.loop-told.records.place _ c.loop-told.invariant.0 c.in_default.ensures.answer c.loop-told.invariant.1 b') in
     record { left = f.state; law = f.law; kept = f.kept }

@@ -3,9 +3,9 @@ use Rattle.registers.specs.Stores.{put_row}
 use Rattle.full.proofs.Swaps.{put_row_same}
 use Rattle.full.proofs.registers_of.put_held.Goals as goal
 
-pub returns-then-same-figures : goal.returns-then-same-figures
-returns-then-same-figures g c =
-    let e : c.args.held.figures ≡ c.args.figures = c.same_figures.ensures.same c.if-same-figures.true in
+pub returns-then-same_figures : goal.returns-then-same_figures
+returns-then-same_figures g c =
+    let e : c.args.held.figures ≡ c.args.figures = c.same_figures.ensures.same c.if-same_figures.true in
     record {
       same = λ x. refl;
       changed = λ ne. absurd (ne e);

@@ -10,8 +10,8 @@ loop-i-init g c = told_none _ _ _
 
 pub loop-i-preserved : goal.loop-i-preserved
 loop-i-preserved g c =
-    told_more (state_of g.S.Store.rows g.S.Store.capacity c.new-engine.result) c.args.calls.now c.args.outcomes.now c.loop-i.i (state_of g.S.Store.rows g.S.Store.capacity c.loop-i.engine) (state_of g.S.Store.rows g.S.Store.capacity c.carry-out-outcome.new.engine) c.loop-i.outcomes
-    _ c.carry-out-outcome.result (omega arith) (omega arith) c.carry-out-outcome.ensures.answer c.carry-out-outcome.ensures.left c.loop-i.invariant
+    told_more (state_of g.S.Store.rows g.S.Store.capacity c.new-engine.result) c.args.calls.now c.args.outcomes.now c.loop-i.i (state_of g.S.Store.rows g.S.Store.capacity c.loop-i.engine) (state_of g.S.Store.rows g.S.Store.capacity c.carry_out-outcome.new.engine) c.loop-i.outcomes
+    _ c.carry_out-outcome.result (omega arith) (omega arith) c.carry_out-outcome.ensures.answer c.carry_out-outcome.ensures.left c.loop-i.invariant
 
 pub returns : goal.returns
 returns g c =

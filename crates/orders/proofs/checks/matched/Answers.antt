@@ -2,9 +2,9 @@ use Rattle.std.proofs.Common.{rules}
 use Rattle.orders.specs.Checks.{matched_of}
 use Rattle.orders.proofs.checks.matched.Goals as goal
 
-pub returns-then-not-is-buy : goal.returns-then-not-is-buy
+pub returns-then-not-is_buy : goal.returns-then-not-is_buy
 unfolding matched_of
-returns-then-not-is-buy c = search rules
+returns-then-not-is_buy c = search rules
 
 pub returns-then-p : goal.returns-then-p
 unfolding matched_of

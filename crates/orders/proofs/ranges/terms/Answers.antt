@@ -2,21 +2,21 @@ use Rattle.std.proofs.Common.{rules}
 use Rattle.orders.specs.Terms.{terms_of}
 use Rattle.orders.proofs.ranges.terms.Goals as goal
 
-pub returns-in-err-mode : goal.returns-in-err-mode
+pub returns-in_err-mode : goal.returns-in_err-mode
 unfolding terms_of
-returns-in-err-mode c = search rules
+returns-in_err-mode c = search rules
 
-pub returns-then-not-number-ok : goal.returns-then-not-number-ok
+pub returns-then-not-number_ok : goal.returns-then-not-number_ok
 unfolding terms_of
-returns-then-not-number-ok c = search rules
+returns-then-not-number_ok c = search rules
 
-pub returns-in-err-quantity : goal.returns-in-err-quantity
+pub returns-in_err-quantity : goal.returns-in_err-quantity
 unfolding terms_of
-returns-in-err-quantity c = search rules
+returns-in_err-quantity c = search rules
 
-pub returns-in-err-price : goal.returns-in-err-price
+pub returns-in_err-price : goal.returns-in_err-price
 unfolding terms_of
-returns-in-err-price c = search rules
+returns-in_err-price c = search rules
 
 pub returns : goal.returns
 unfolding terms_of

@@ -9,8 +9,8 @@ module _ (c : goal.After-from) where
   most : c.args.product * c.args.ratio.value ≤ 100000000000000 * 10000
   most = mul-le-mul c.requires c.args.ratio.most
 
-pub overflow-add-result : goal.overflow-add-result
-overflow-add-result c = omega (arith, same c, most c)
+pub overflow_add-result : goal.overflow_add-result
+overflow_add-result c = omega (arith, same c, most c)
 
 pub returns : goal.returns
 unfolding rounded

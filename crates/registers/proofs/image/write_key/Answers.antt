@@ -10,6 +10,6 @@ returns c =
     let s : List ℕ = c.args.bytes.now in
     let a : List ℕ = bytes_of 1 c.args.key.kind in
     let b : List ℕ = bytes_of 4 c.args.key.code in
-    let first : c.put-u8.new.bytes ≡ spliced 1 c.args.at a s = c.put-u8.ensures.after ∙ put_within 1 c.args.at c.args.key.kind s (omega arith) in
-    let second : c.put-u32.new.bytes ≡ spliced 5 c.args.at (a ++ b) s = c.put-u32.ensures.after ∙ put_behind 1 4 c.args.at c.args.key.code a s c.put-u8.new.bytes first (omega arith) (omega arith) in
-    c.put-u16.ensures.after ∙ put_behind 5 2 c.args.at c.args.key.security (a ++ b) s c.put-u32.new.bytes second (omega arith) (omega arith)
+    let first : c.put_u8.new.bytes ≡ spliced 1 c.args.at a s = c.put_u8.ensures.after ∙ put_within 1 c.args.at c.args.key.kind s (omega arith) in
+    let second : c.put_u32.new.bytes ≡ spliced 5 c.args.at (a ++ b) s = c.put_u32.ensures.after ∙ put_behind 1 4 c.args.at c.args.key.code a s c.put_u8.new.bytes first (omega arith) (omega arith) in
+    c.put_u16.ensures.after ∙ put_behind 5 2 c.args.at c.args.key.security (a ++ b) s c.put_u32.new.bytes second (omega arith) (omega arith)

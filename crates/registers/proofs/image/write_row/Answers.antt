@@ -7,6 +7,6 @@ use Rattle.registers.proofs.image.write_row.Goals as goal
 
 pub returns : goal.returns
 returns c =
-    c.write-figures.ensures
-    ∙ ap (spliced 24 (c.args.at + 7) (figure_bytes c.args.row.figures)) c.write-key.ensures
+    c.write_figures.ensures
+    ∙ ap (spliced 24 (c.args.at + 7) (figure_bytes c.args.row.figures)) c.write_key.ensures
     ∙ spliced-spliced 7 24 c.args.at (key_bytes c.args.row.key) (figure_bytes c.args.row.figures) c.args.bytes.now (omega arith) (length-key_bytes c.args.row.key)

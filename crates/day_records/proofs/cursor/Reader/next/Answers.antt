@@ -36,8 +36,8 @@ pub returns : goal.returns
 returns c =
     let s : List ℕ = c.args.self.now.bytes.now in
     let p : ℕ = c.args.self.now.place in
-    let told : Result Placed Misread = c.in-ok-told.told in
-    let at : told_as (Some told) ≡ item_at p (drop p s) = c.in-ok-told.ensures ∙ ap (item_at p) (take_rest s p) in
+    let told : Result Placed Misread = c.in_ok-told.told in
+    let at : told_as (Some told) ≡ item_at p (drop p s) = c.in_ok-told.ensures ∙ ap (item_at p) (take_rest s p) in
     let left : c.match-told.self ≡ place_after (told_as (Some told)) p (length s) =
     elim c.match-told.branch [ goal.in-Ok w ↦ w.self-is ∙ past s p told at w.in-Ok.read w.length.result w.in-Ok.is w.length.ensures | goal.in-Err w ↦ w.self-is ∙ ended s p told at _ w.in-Err.is ]
     in

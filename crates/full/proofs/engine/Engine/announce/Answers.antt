@@ -6,21 +6,21 @@ pub returns-then-a-ne1 : goal.returns-then-a-ne1
 unfolding announce_of
 returns-then-a-ne1 g c = search rules
 
-pub returns-in-err-ready : goal.returns-in-err-ready
+pub returns-in_err-ready : goal.returns-in_err-ready
 unfolding announce_of
-returns-in-err-ready g c = search rules
+returns-in_err-ready g c = search rules
 
-pub returns-in-err-cash : goal.returns-in-err-cash
+pub returns-in_err-cash : goal.returns-in_err-cash
 unfolding announce_of
-returns-in-err-cash g c = search rules
+returns-in_err-cash g c = search rules
 
-pub returns-in-err-holding : goal.returns-in-err-holding
+pub returns-in_err-holding : goal.returns-in_err-holding
 unfolding announce_of
-returns-in-err-holding g c = search rules
+returns-in_err-holding g c = search rules
 
-pub returns-in-err-blocked : goal.returns-in-err-blocked
+pub returns-in_err-blocked : goal.returns-in_err-blocked
 unfolding announce_of
-returns-in-err-blocked g c = search rules
+returns-in_err-blocked g c = search rules
 
 pub returns : goal.returns
 unfolding announce_of

@@ -3,21 +3,21 @@ use Rattle.std.proofs.lemmas.Int.{to_z-of_z}
 use Rattle.full.specs.Calls.{credit_of}
 use Rattle.full.proofs.engine.Engine.credit.Goals as goal
 
-pub returns-then-not-code-ok : goal.returns-then-not-code-ok
+pub returns-then-not-code_ok : goal.returns-then-not-code_ok
 unfolding credit_of
-returns-then-not-code-ok g c = search (rules, to_z-of_z)
+returns-then-not-code_ok g c = search (rules, to_z-of_z)
 
-pub returns-in-default : goal.returns-in-default
+pub returns-in_default : goal.returns-in_default
 unfolding credit_of
-returns-in-default g c = search (rules, to_z-of_z)
+returns-in_default g c = search (rules, to_z-of_z)
 
-pub returns-in-err-register : goal.returns-in-err-register
+pub returns-in_err-register : goal.returns-in_err-register
 unfolding credit_of
-returns-in-err-register g c = search (rules, to_z-of_z)
+returns-in_err-register g c = search (rules, to_z-of_z)
 
-pub returns-in-err-credited : goal.returns-in-err-credited
+pub returns-in_err-credited : goal.returns-in_err-credited
 unfolding credit_of
-returns-in-err-credited g c = search (rules, to_z-of_z)
+returns-in_err-credited g c = search (rules, to_z-of_z)
 
 pub returns : goal.returns
 unfolding credit_of

@@ -2,21 +2,21 @@ use Rattle.std.proofs.Common.{rules}
 use Rattle.full.specs.Calls.{open_of}
 use Rattle.full.proofs.engine.Engine.open.Goals as goal
 
-pub returns-in-default : goal.returns-in-default
+pub returns-in_default : goal.returns-in_default
 unfolding open_of
-returns-in-default g c = search rules
+returns-in_default g c = search rules
 
-pub returns-then-is-none : goal.returns-then-is-none
+pub returns-then-is_none : goal.returns-then-is_none
 unfolding open_of
-returns-then-is-none g c = search rules
+returns-then-is_none g c = search rules
 
-pub returns-then-is-some : goal.returns-then-is-some
+pub returns-then-is_some : goal.returns-then-is_some
 unfolding open_of
-returns-then-is-some g c = search rules
+returns-then-is_some g c = search rules
 
-pub returns-in-err-add : goal.returns-in-err-add
+pub returns-in_err-add : goal.returns-in_err-add
 unfolding open_of
-returns-in-err-add g c = search rules
+returns-in_err-add g c = search rules
 
 pub returns : goal.returns
 unfolding open_of

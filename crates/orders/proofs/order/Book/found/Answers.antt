@@ -3,14 +3,14 @@ use Rattle.orders.specs.Checks.{found_of}
 use Rattle.orders.proofs.Tables.{found_none, found_some}
 use Rattle.orders.proofs.order.Book.found.Goals as goal
 
-pub returns-in-default : goal.returns-in-default
+pub returns-in_default : goal.returns-in_default
 unfolding found_of
-returns-in-default c = search rules
+returns-in_default c = search rules
 
-pub returns-in-default-slot : goal.returns-in-default-slot
+pub returns-in_default-slot : goal.returns-in_default-slot
 unfolding found_of
-returns-in-default-slot c =
-    found_none c.args.self.now.orders c.args.number c.in-Some.place c.index-self-place.result c.in-Some.ensures.inside c.in-Some.ensures.place c.in-default-slot.is
+returns-in_default-slot c =
+    found_none c.args.self.now.orders c.args.number c.in-Some.place c.index-self-place.result c.in-Some.ensures.inside c.in-Some.ensures.place c.in_default-slot.is
 
 pub returns : goal.returns
 unfolding found_of

@@ -8,5 +8,5 @@ returns-then-place-places c = search (rules, slots_lowered, slots_kept, slots_pa
 pub returns-in-Some : goal.returns-in-Some
 returns-in-Some c = search (rules, slots_lowered, slots_kept, slots_past)
 
-pub returns-in-default : goal.returns-in-default
-returns-in-default c = search (rules, slots_lowered, slots_kept, slots_past)
+pub returns-in_default : goal.returns-in_default
+returns-in_default c = search (rules, slots_lowered, slots_kept, slots_past)

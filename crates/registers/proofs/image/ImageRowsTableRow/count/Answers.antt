@@ -3,4 +3,4 @@ use Rattle.registers.proofs.Images.{length-image_rows}
 use Rattle.registers.proofs.image.ImageRowsTableRow.count.Goals as goal
 
 pub returns : goal.returns
-returns c = c.count-of.ensures ∙ sym (length-image_rows c.args.self.now.bytes.now)
+returns c = c.count_of.ensures ∙ sym (length-image_rows c.args.self.now.bytes.now)
