@@ -1,6 +1,6 @@
 -- Look-ups and sums after a change of one element.
 use Rattle.std.proofs.Common.{◌≡◌, ℕ, ◌+◌, Bool, true, false, eqb, List, [], ◌∷◌, ◌++◌, Some, None, refl, subst, arith}
-use Rattle.std.specs.List.{AllByRecursion as All}
+use Rattle.std.specs.List.{AllByRecursion}
 use Rattle.std.proofs.lemmas.Bool.{cond_both}
 use Rattle.std.proofs.lemmas.Bool.Decides.{nat_tests}
 use Rattle.full_runs.specs.Keyed.{at, put, total}
@@ -26,11 +26,11 @@ module _ {X : Type 0} (key : X → ℕ) where
   total_put g n y [] x ky e = grind arith
   total_put g n y (z ∷ zs) x ky e = let h = total_put g n y zs x ky in grind (arith, nat_tests, h)
 
-  pub all_put : (P : X → Type 0) (y : X) (xs : List X) → P y → All P xs → All P (put key y xs)
+  pub all_put : (P : X → Type 0) (y : X) (xs : List X) → P y → AllByRecursion P xs → AllByRecursion P (put key y xs)
   all_put P y [] p h = tt
-  all_put P y (z ∷ zs) p h = let i = all_put P y zs p h.1 in cond_both (eqb (key y) (key z)) (y ∷ zs) (z ∷ put key y zs) (All P) (λ _. (p, h.1)) (λ _. (h.0, i))
+  all_put P y (z ∷ zs) p h = let i = all_put P y zs p h.1 in cond_both (eqb (key y) (key z)) (y ∷ zs) (z ∷ put key y zs) (AllByRecursion P) (λ _. (p, h.1)) (λ _. (h.0, i))
 
-  pub all_at : (P : X → Type 0) (n : ℕ) (xs : List X) (x : X) → All P xs → at key n xs ≡ Some x → P x
+  pub all_at : (P : X → Type 0) (n : ℕ) (xs : List X) (x : X) → AllByRecursion P xs → at key n xs ≡ Some x → P x
   all_at P n [] x h e = absurd (let z : ◌≡◌ {A = ℕ} 0 1 = cc in omega arith)
   all_at P n (z ∷ zs) x h e = let i = all_at P n zs x h.1 in
       by_cond (eqb n (key z)) (λ t. subst P (some_same z x (cc)) h.0) (λ t. i (cc))

@@ -1,6 +1,6 @@
 -- The orders beside the notes: one order's rest changes, or a new one is announced.
 use Rattle.std.proofs.Common.{◌≡◌, ℕ, ◌+◌, ◌-◌, ◌<◌, ◌≤◌, Bool, true, false, cond, eqb, ltb, List, [], ◌∷◌, ◌++◌, length, get_or, set, Some, None, Option, sym, refl, ap, ◌∙◌, subst, ⊎_elim, arith}
-use Rattle.std.specs.List.{AllByRecursion as All}
+use Rattle.std.specs.List.{AllByRecursion}
 use Rattle.std.proofs.lemmas.Bool.{cases_eq, eqb-true, eq-eqb, ne_eqb, lt-ltb}
 use Rattle.std.proofs.ByRecursion.{All-push, All-weaker}
 use Rattle.orders.specs.State.{Live, has_number, resting}
@@ -61,7 +61,7 @@ module _ (notes : List Note) (os : List (Option Live)) (last : ℕ) (h : Orders 
       at_number = at_key number n notes x ex
 
   -- no note bears a number above the last
-  none_above : (n : ℕ) (xs : List Note) → last < n → All (λ (x : Note). number x ≤ last) xs → at number n xs ≡ None
+  none_above : (n : ℕ) (xs : List Note) → last < n → AllByRecursion (λ (x : Note). number x ≤ last) xs → at number n xs ≡ None
   none_above n [] l f = refl
   none_above n (x ∷ xs) l f =
       let e : eqb n (number x) ≡ false = ne_eqb n (number x) (λ s. omega (arith, f.0)) in

@@ -1,6 +1,6 @@
 -- The law over whole runs.
 use Rattle.std.specs.Prelude.{◌≡◌, ℕ, ◌+◌, ◌≤◌, true, cond, List, [], ◌∷◌, map, ℤ, pos, ◌+ℤ◌, ◌-ℤ◌, ◌≤ℤ◌, Some, None, Option, ◌==◌, ◌≢◌, nat_lt}
-use Rattle.std.specs.List.{slice_get, AllByRecursion as All}
+use Rattle.std.specs.List.{slice_get, AllByRecursion}
 use Rattle.std.specs.Int.{int_min}
 use Rattle.registers.specs.declared.row.Key.{Key}
 use Rattle.registers.specs.declared.row.Figures.{Figures}
@@ -51,9 +51,9 @@ FairIn reserve notes times f o =
 -- the orders of a state, beside the notes
 pub record Orders (notes : List Note) (orders : List (Option Live)) (last : ℕ) : Type 0 where
   -- of each order, no more was traded and given back than was announced
-  pub whole : All Whole notes
+  pub whole : AllByRecursion Whole notes
   -- numbers rise
-  pub fresh : All (λ (x : Note). number x ≤ last) notes
+  pub fresh : AllByRecursion (λ (x : Note). number x ≤ last) notes
   -- the live orders are those with a rest, as announced and with that rest, each in one place
   pub live : (n : ℕ) → slot_for n orders ≡ lives (at number n notes)
   pub once : (n : ℕ) → places_of n orders ≤ 1
