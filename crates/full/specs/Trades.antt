@@ -1,5 +1,5 @@
 -- What a trade does: its checks in their order, the registers that it moves, and the state it leaves.
-use Rattle.std.specs.Prelude.{◌≡◌, ℕ, Bool, ◌&&◌, List, ℤ, pos, ◌+ℤ◌, ◌-ℤ◌, None, Ok, Option, Result, slice_index_or, slice_set}
+use Rattle.std.specs.Prelude.{◌≡◌, ℕ, Bool, ◌&&◌, List, pos, ◌+ℤ◌, ◌-ℤ◌, None, Ok, Option, Result, slice_index_or, slice_set}
 use Rattle.registers.specs.declared.row.Figures.{Figures}
 use Rattle.registers.specs.declared.row.Row.{Row}
 use Rattle.registers.specs.declared.fault.StoreFault.TheVariants.{OutOfRange}

@@ -11,7 +11,6 @@ use Rattle.orders.specs.State.{Live}
 use Rattle.full.specs.Plans.{State, Plan, answer_of, left_by}
 use Rattle.full_runs.specs.declared.call.Call.{Call}
 use Rattle.full_runs.specs.declared.call.Call.TheVariants.{Admit, Open, Credit, Announce, Withdraw, Trade}
-use Rattle.full_runs.specs.Keyed.{at}
 use Rattle.full_runs.specs.Runs.{call_of, outcome, next, outcomes_of, state_after, begin}
 use Rattle.full_runs.specs.Tally.{Tally, Opened, Note, empty, entered, noted, number, rest_of, standing, owed, times_on, tallied}
 use Rattle.full_runs.specs.Law.{FairIn, Promise, Law, Whole, lives, live_rest, slot_for, places_of, base_of, slack_of}

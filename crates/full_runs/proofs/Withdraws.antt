@@ -1,5 +1,5 @@
 -- A withdrawal keeps the promise.
-use Rattle.std.proofs.Common.{◌≡◌, ℕ, ◌+◌, ◌-◌, ◌*◌, ◌<◌, Bool, false, cond, List, set, pos, ◌-ℤ◌, Some, None, Ok, Option, sym, refl, ap, ◌∙◌, subst, zero-mul, arith, lit<}
+use Rattle.std.proofs.Common.{◌≡◌, ℕ, ◌+◌, ◌*◌, Bool, false, cond, List, set, pos, ◌-ℤ◌, Some, None, Ok, Option, sym, refl, ap, ◌∙◌, subst, zero-mul, arith, lit<}
 use Rattle.std.proofs.lemmas.Int.{ints}
 use Rattle.std.proofs.lemmas.Bool.{le-ltb}
 use Rattle.registers.specs.declared.row.Key.{Key}

@@ -1,5 +1,5 @@
 -- Rounding half up, over any divisor.
-use Rattle.std.proofs.Common.{◌≡◌, ℕ, ◌+◌, ◌-◌, ◌*◌, ◌/◌, ◌<◌, ◌≤◌, ◌⊎◌, ⊎_elim, mod-lt, mul_assoc, mul-le-mul_left, mul-zero, mul-add, arith}
+use Rattle.std.proofs.Common.{◌≡◌, ℕ, ◌+◌, ◌*◌, ◌/◌, ◌<◌, ◌≤◌, ⊎_elim, mod-lt, mul_assoc, mul-le-mul_left, mul-zero, mul-add, arith}
 use native.Mathlib.Nat.{div-add-mod}
 use Rattle.std.proofs.lemmas.Bool.{cases_lt}
 use Rattle.registers.specs.Amounts.{rounded, RoundedNear, RoundedMonotone, RoundedNone}
