@@ -80,8 +80,8 @@ pub terms_range : (a : Announcement) (t : TermsOf) → terms_of a ≡ Some t →
 unfolding terms_of
 terms_range a t e = terms_mode a t (mode_of a.mode) refl e
 
-live_of : {n n' ac ac' se se' pr pr' ra ra' re re' : ℕ} {si si' : Side} {mo mo' : Mode} → n ≡ n' → si ≡ si' → mo ≡ mo' → ac ≡ ac' → se ≡ se' → pr ≡ pr' → ra ≡ ra' → re ≡ re' → ◌≡◌ {A = Live} (record { number = n; side = si; mode = mo; account = ac; security = se; price = pr; ratio = ra; rest = re }) (record { number = n'; side = si'; mode = mo'; account = ac'; security = se'; price = pr'; ratio = ra'; rest = re' })
-live_of a b c d e f g h = cc
+live_of_lem : {n n' ac ac' se se' pr pr' ra ra' re re' : ℕ} {si si' : Side} {mo mo' : Mode} → n ≡ n' → si ≡ si' → mo ≡ mo' → ac ≡ ac' → se ≡ se' → pr ≡ pr' → ra ≡ ra' → re ≡ re' → ◌≡◌ {A = Live} (record { number = n; side = si; mode = mo; account = ac; security = se; price = pr; ratio = ra; rest = re }) (record { number = n'; side = si'; mode = mo'; account = ac'; security = se'; price = pr'; ratio = ra'; rest = re' })
+live_of_lem a b c d e f g h = cc
 
 module _ (ss : List Admitted) (os : List (Option Live)) (last : ℕ) (a : Announcement) (r : ReadyOf) where
   ready_by : (t : Option TermsOf) (b : Bool) (k i : Option ℕ) → terms_of a ≡ t → ltb last a.number ≡ b → admitted_as ss a.security ≡ k → free_place os ≡ i →
@@ -103,7 +103,7 @@ module _ (ss : List Admitted) (os : List (Option Live)) (last : ℕ) (a : Announ
         rests = omega (arith, tr.quantity, tr.least);
         within = omega (arith, fp.0);
         free = ap (λ (j : ℕ). get_or os j None) (sym pi) ∙ free_none (get_or os i None) fp.1;
-        order = sym po ∙ live_of refl refl (mode_of_lem (mode_of a.mode) tr.mode) refl refl tr.price (sym (ratio_noted_lem a.security ss k g)) tr.quantity;
+        order = sym po ∙ live_of_lem refl refl (mode_of_lem (mode_of a.mode) tr.mode) refl refl tr.price (sym (ratio_noted_lem a.security ss k g)) tr.quantity;
       }
     where
       mode_of_lem : (o : Option Mode) → o ≡ Some t.mode → t.mode ≡ unwrap_or o Full

@@ -9,14 +9,14 @@ use Rattle.registers.specs.Registers.{same_key}
 use Rattle.registers.specs.Stores.{put_row, with_figures}
 
 -- keys that are the same
-key_of : {a b c a' b' c' : ℕ} → a ≡ a' → b ≡ b' → c ≡ c' → ◌≡◌ {A = Key} (record { kind = a; code = b; security = c }) (record { kind = a'; code = b'; security = c' })
-key_of p q r = cc
+key_of_lem : {a b c a' b' c' : ℕ} → a ≡ a' → b ≡ b' → c ≡ c' → ◌≡◌ {A = Key} (record { kind = a; code = b; security = c }) (record { kind = a'; code = b'; security = c' })
+key_of_lem p q r = cc
 
 pub same_key_lem : (a b : Key) → same_key a b ≡ true → a ≡ b
 same_key_lem a b e =
     let x = and_parts (eqb a.kind b.kind) (eqb a.code b.code && eqb a.security b.security) e in
     let y = and_parts (eqb a.code b.code) (eqb a.security b.security) x.1 in
-    key_of (eqb-true _ _ x.0) (eqb-true _ _ y.0) (eqb-true _ _ y.1)
+    key_of_lem (eqb-true _ _ x.0) (eqb-true _ _ y.0) (eqb-true _ _ y.1)
 
 pub key_same : (a b : Key) → a ≡ b → same_key a b ≡ true
 key_same a b e =
