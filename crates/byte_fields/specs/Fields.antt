@@ -1,7 +1,6 @@
 -- Numbers in bytes, the first byte the most.
 use Rattle.std.specs.Prelude.{◌≡◌, ℕ, zero, suc, ◌+◌, ◌/◌, ◌%◌, ◌^◌, ◌<◌, Bool, true, cond, List, [], ◌∷◌, ◌++◌, length, take, drop, ℤ, Some, None, Option, nat_le}
-use Rattle.std.proofs.Common.{to_z}
-use Rattle.std.specs.Int.{w64}
+use Rattle.std.specs.Int.{w64, cast_signed, cast_unsigned}
 use Rattle.std.specs.Int.Digits.{number_from_digits, AllBelowBase}
 
 -- the number that bytes write
@@ -21,20 +20,34 @@ part k at s = take k (drop at s)
 abbrev pub within : ℕ → ℕ → List ℕ → Bool
 within k at s = nat_le (k + at) (length s)
 
+-- a signed number of 64 bits in two's complement, as its bytes write it, and its bytes
+abbrev pub signed_be : List ℕ → ℤ
+signed_be bs = cast_signed w64 (be bs)
+
+abbrev pub signed_bytes_of : ℤ → List ℕ
+signed_bytes_of z = bytes_of 8 (cast_unsigned w64 z)
+
+-- what the bytes of a field of k bytes at a place mean, by a meaning of bytes
+abbrev pub meant_at : {X : Type 0} → (List ℕ → X) → ℕ → ℕ → List ℕ → Option X
+meant_at f k at s = cond (within k at s) (Some (f (part k at s))) None
+
 -- the number in a field of k bytes at a place, and the same as a signed one of 64 bits
 abbrev pub read_at : ℕ → ℕ → List ℕ → Option ℕ
-read_at k at s = cond (within k at s) (Some (be (part k at s))) None
+read_at k at s = meant_at be k at s
 
 abbrev pub signed_at : ℕ → List ℕ → Option ℤ
-signed_at at s = cond (within 8 at s) (Some (to_z w64 (be (part 8 at s)))) None
+signed_at at s = meant_at signed_be 8 at s
 
 -- bytes with others in the place of the k from a place on; every other byte stays
 abbrev pub spliced : ℕ → ℕ → List ℕ → List ℕ → List ℕ
 spliced k at ys s = take at s ++ (ys ++ drop k (drop at s))
 
--- all bytes after a number is written into a field of k bytes at a place
+-- all bytes after others are written into a field of k bytes at a place, and after a number is
+abbrev pub written_at : ℕ → ℕ → List ℕ → List ℕ → List ℕ
+written_at k at ys s = cond (within k at s) (spliced k at ys s) s
+
 abbrev pub put_at : ℕ → ℕ → ℕ → List ℕ → List ℕ
-put_at k at n s = cond (within k at s) (spliced k at (bytes_of k n) s) s
+put_at k at n s = written_at k at (bytes_of k n) s
 
 -- write then read: the number comes back, at every width and place
 abbrev pub ReadBack : Type 0

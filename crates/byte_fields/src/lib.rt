@@ -1,100 +1,62 @@
 //! Big-endian number fields in byte slices: unsigned of 1, 2, 4 and 8 bytes, and signed of 8.
 //!
 //! A field is named by the place of its first byte. Where it does not lie within the slice, reading
-//! answers `None`, and writing answers `false` and leaves every byte as it stood.
+//! answers `None`, and writing refuses and leaves every byte as it stood.
 #![tactic(auto)]
 
-ghost use Rattle.std.specs.Prelude.{◌≡◌, ◌+◌, ◌*◌, ◌^◌, ◌<◌, ◌≤◌, length, IfSome, nat_le};
-ghost use Rattle.std.specs.Int.{w64};
-ghost use Rattle.std.proofs.Common.{of_z};
-ghost use Rattle.byte_fields.specs.Fields.{be, within, read_at, signed_at, put_at, ReadBack, Rewritten};
+ghost use Rattle.std.specs.Prelude.{◌≡◌, ℕ, ◌+◌, ◌*◌, ◌^◌, ◌<◌, ◌≤◌, List, length, is_ok, nat_le};
+ghost use Rattle.byte_fields.specs.Fields.{be, bytes_of, signed_be, signed_bytes_of, within, meant_at, written_at, ReadBack, Rewritten};
 
-/// The number in the one byte at `at`.
-pub fn u8_at(bytes: &[u8], at: usize) -> Option<u8>
-    ensures { result ≡ read_at 1 at bytes.now }
+/// A number that stands in a field of a fixed width, the first byte the most.
+pub trait Field: Copy {
+    /// How many bytes the field has.
+    const WIDTH: usize;
+
+    /// How many bytes the field has.
+    ghost WIDTH: { ℕ };
+
+    /// The number that bytes write.
+    ghost meant: { List ℕ → Self };
+
+    /// The bytes that write a number.
+    ghost spelled: { Self → List ℕ };
+
+    /// The number that the bytes of a field write.
+    fn from_bytes(field: &[u8]) -> Self
+        requires { length field.now ≡ WIDTH }
+        ensures { result ≡ meant field.now };
+
+    /// Writes the number into the bytes of a field.
+    fn write_to(self, field: &mut [u8])
+        requires { length field.old ≡ WIDTH }
+        ensures { field.new ≡ spelled self };
+}
+
+/// A field does not lie within the bytes.
+#[derive(Clone, Copy, PartialEq, Eq, Debug)]
+pub struct Outside;
+
+/// The number in the field from `at` on, or `None` where the field does not lie within.
+pub fn read<T: Field>(bytes: &[u8], at: usize) -> Option<T>
+    ensures { result ≡ meant_at T.meant T.WIDTH at bytes.now }
 {
-    match unsigned_at(bytes, at, 1) {
-        Some(n) => Some(n as u8),
-        None => None,
+    if !lies_within(bytes.len(), at, T::WIDTH) {
+        return None;
     }
+    Some(T::from_bytes(&bytes[at..at + T::WIDTH]))
 }
 
-/// The number in the two bytes from `at` on.
-pub fn u16_at(bytes: &[u8], at: usize) -> Option<u16>
-    ensures { result ≡ read_at 2 at bytes.now }
+/// Writes `value` into the field from `at` on. Refuses a field that does not lie within; every byte
+/// is then as it stood.
+pub fn write<T: Field>(bytes: &mut [u8], at: usize, value: T) -> Result<(), Outside>
+    ensures answer { is_ok result ≡ within T.WIDTH at bytes.old }
+    ensures after { bytes.new ≡ written_at T.WIDTH at (T.spelled value) bytes.old }
 {
-    match unsigned_at(bytes, at, 2) {
-        Some(n) => Some(n as u16),
-        None => None,
+    if !lies_within(bytes.len(), at, T::WIDTH) {
+        return Err(Outside);
     }
-}
-
-/// The number in the four bytes from `at` on.
-pub fn u32_at(bytes: &[u8], at: usize) -> Option<u32>
-    ensures { result ≡ read_at 4 at bytes.now }
-{
-    match unsigned_at(bytes, at, 4) {
-        Some(n) => Some(n as u32),
-        None => None,
-    }
-}
-
-/// The number in the eight bytes from `at` on.
-pub fn u64_at(bytes: &[u8], at: usize) -> Option<u64>
-    ensures { result ≡ read_at 8 at bytes.now }
-{
-    unsigned_at(bytes, at, 8)
-}
-
-/// The signed number that the eight bytes from `at` on write in two's complement.
-pub fn i64_at(bytes: &[u8], at: usize) -> Option<i64>
-    ensures { result ≡ signed_at at bytes.now }
-{
-    match unsigned_at(bytes, at, 8) {
-        Some(n) => Some(n.cast_signed()),
-        None => None,
-    }
-}
-
-/// Writes `value` into the one byte at `at`; answers whether it lies within.
-pub fn put_u8(bytes: &mut [u8], at: usize, value: u8) -> bool
-    ensures answer { result ≡ within 1 at bytes.old }
-    ensures after { bytes.new ≡ put_at 1 at value bytes.old }
-{
-    put_unsigned(bytes, at, 1, u64::from(value))
-}
-
-/// Writes `value` into the two bytes from `at` on; answers whether they lie within.
-pub fn put_u16(bytes: &mut [u8], at: usize, value: u16) -> bool
-    ensures answer { result ≡ within 2 at bytes.old }
-    ensures after { bytes.new ≡ put_at 2 at value bytes.old }
-{
-    put_unsigned(bytes, at, 2, u64::from(value))
-}
-
-/// Writes `value` into the four bytes from `at` on; answers whether they lie within.
-pub fn put_u32(bytes: &mut [u8], at: usize, value: u32) -> bool
-    ensures answer { result ≡ within 4 at bytes.old }
-    ensures after { bytes.new ≡ put_at 4 at value bytes.old }
-{
-    put_unsigned(bytes, at, 4, u64::from(value))
-}
-
-/// Writes `value` into the eight bytes from `at` on; answers whether they lie within.
-pub fn put_u64(bytes: &mut [u8], at: usize, value: u64) -> bool
-    ensures answer { result ≡ within 8 at bytes.old }
-    ensures after { bytes.new ≡ put_at 8 at value bytes.old }
-{
-    put_unsigned(bytes, at, 8, value)
-}
-
-/// Writes `value` in two's complement into the eight bytes from `at` on; answers whether they lie
-/// within.
-pub fn put_i64(bytes: &mut [u8], at: usize, value: i64) -> bool
-    ensures answer { result ≡ within 8 at bytes.old }
-    ensures after { bytes.new ≡ put_at 8 at (of_z w64 value) bytes.old }
-{
-    put_unsigned(bytes, at, 8, value.cast_unsigned())
+    value.write_to(&mut bytes[at..at + T::WIDTH]);
+    Ok(())
 }
 
 /// At every width and every place: a number that was written reads back as itself, and a field that
@@ -104,21 +66,100 @@ pub fn fields_round_trip()
     ensures read { Rewritten }
 {}
 
+impl Field for u8 {
+    const WIDTH: usize = 1;
+
+    ghost WIDTH = { 1 };
+
+    ghost meant = { be };
+
+    ghost spelled = { bytes_of 1 };
+
+    fn from_bytes(field: &[u8]) -> u8 {
+        unsigned(field) as u8
+    }
+
+    fn write_to(self, field: &mut [u8]) {
+        put_unsigned(field, u64::from(self));
+    }
+}
+
+impl Field for u16 {
+    const WIDTH: usize = 2;
+
+    ghost WIDTH = { 2 };
+
+    ghost meant = { be };
+
+    ghost spelled = { bytes_of 2 };
+
+    fn from_bytes(field: &[u8]) -> u16 {
+        unsigned(field) as u16
+    }
+
+    fn write_to(self, field: &mut [u8]) {
+        put_unsigned(field, u64::from(self));
+    }
+}
+
+impl Field for u32 {
+    const WIDTH: usize = 4;
+
+    ghost WIDTH = { 4 };
+
+    ghost meant = { be };
+
+    ghost spelled = { bytes_of 4 };
+
+    fn from_bytes(field: &[u8]) -> u32 {
+        unsigned(field) as u32
+    }
+
+    fn write_to(self, field: &mut [u8]) {
+        put_unsigned(field, u64::from(self));
+    }
+}
+
+impl Field for u64 {
+    const WIDTH: usize = 8;
+
+    ghost WIDTH = { 8 };
+
+    ghost meant = { be };
+
+    ghost spelled = { bytes_of 8 };
+
+    fn from_bytes(field: &[u8]) -> u64 {
+        unsigned(field)
+    }
+
+    fn write_to(self, field: &mut [u8]) {
+        put_unsigned(field, self);
+    }
+}
+
+impl Field for i64 {
+    const WIDTH: usize = 8;
+
+    ghost WIDTH = { 8 };
+
+    ghost meant = { signed_be };
+
+    ghost spelled = { signed_bytes_of };
+
+    fn from_bytes(field: &[u8]) -> i64 {
+        unsigned(field).cast_signed()
+    }
+
+    fn write_to(self, field: &mut [u8]) {
+        put_unsigned(field, self.cast_unsigned());
+    }
+}
+
 fn lies_within(len: usize, at: usize, width: usize) -> bool
     ensures { result ≡ nat_le (width + at) len }
 {
     at <= len && width <= len - at
-}
-
-fn unsigned_at(bytes: &[u8], at: usize, width: usize) -> Option<u64>
-    requires { width ≤ 8 }
-    ensures value { result ≡ read_at width at bytes.now }
-    ensures small { IfSome result (λ n. n < 256 ^ width) }
-{
-    if !lies_within(bytes.len(), at, width) {
-        return None;
-    }
-    Some(unsigned(&bytes[at..at + width]))
 }
 
 fn unsigned(field: &[u8]) -> u64
@@ -133,15 +174,11 @@ fn unsigned(field: &[u8]) -> u64
     n
 }
 
-fn put_unsigned(bytes: &mut [u8], at: usize, width: usize, value: u64) -> bool
-    requires { width ≤ 8 }
-    ensures answer { result ≡ within width at bytes.old }
-    ensures after { bytes.new ≡ put_at width at value bytes.old }
+fn put_unsigned(field: &mut [u8], value: u64)
+    requires { length field.old ≤ 8 }
+    ensures { field.new ≡ bytes_of (length field.old) value }
 {
-    if !lies_within(bytes.len(), at, width) {
-        return false;
-    }
     let all = value.to_be_bytes();
-    bytes[at..at + width].copy_from_slice(&all[8 - width..8]);
-    true
+    let unused = 8 - field.len();
+    field.copy_from_slice(&all[unused..8]);
 }
