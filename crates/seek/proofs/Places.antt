@@ -1,71 +1,67 @@
--- What a search from the front learns at one place.
-use Rattle.std.proofs.Common.{◌≡◌, ℕ, zero, suc, ◌+◌, ◌<◌, ◌≤◌, Bool, true, false, cond, List, [], ◌∷◌, length, get_or, drop, Some, None, Option, sym, refl, ap, ◌∙◌, arith}
-use Rattle.std.proofs.lemmas.List.{at_drop_more, at_drop_all, get_or_read}
-use Rattle.std.proofs.lemmas.Option.{slice_get-get_or}
-use Rattle.std.specs.List.{slice_get}
+-- The least place at which a record passes a test.
+use Rattle.std.proofs.Common.{◌≡◌, ℕ, zero, suc, ◌+◌, ◌<◌, ◌≤◌, Bool, true, false, cond, List, [], ◌∷◌, length, Some, None, Option, sym, refl, ap, ◌∙◌, arith}
+use Rattle.std.specs.List.{slice_get, position_from}
+use Rattle.std.specs.Option.{MatchOption, IfSome}
 use Rattle.seek.specs.Place.{place_of, on_by, passes, BearsAt}
 
-pub on_by_one : (i : ℕ) (o : Option ℕ) → on_by i (on_by 1 o) ≡ on_by (i + 1) o
+no_case : {X : Type 0} → false ≡ true → X
+no_case e = let z : ◌≡◌ {A = ℕ} 0 1 = cc in absurd (omega arith)
+
+on_by_one : (i : ℕ) (o : Option ℕ) → on_by (i + 1) o ≡ on_by i (on_by 1 o)
 on_by_one i None = refl
-on_by_one i (Some n) = let e : i + (1 + n) ≡ i + 1 + n = omega arith in ap Some e
+on_by_one i (Some n) = let e : i + 1 + n ≡ i + (1 + n) = omega arith in ap Some e
 
-module _ {X : Type 0} (p : X → Bool) (xs : List X) (i : ℕ) where
-  -- the place is the one in what is left, counted from i
-  abbrev pub Left : Type 0
-  Left = place_of p xs ≡ on_by i (place_of p (drop i xs))
+module _ {X : Type 0} (p : X → Bool) where
+  -- std's search, which counts as it goes
+  at_front : (i : ℕ) (b : Bool) (o : Option ℕ) → cond b (Some i) (on_by (i + 1) o) ≡ on_by i (cond b (Some 0) (on_by 1 o))
+  at_front i true o = let e : i ≡ i + 0 = omega arith in ap Some e
+  at_front i false o = on_by_one i o
 
-  at_place : (x : X) → i < length xs → x ≡ get_or xs i x → place_of p (drop i xs) ≡ cond (p x) (Some 0) (on_by 1 (place_of p (drop (i + 1) xs)))
-  at_place x h e =
-      at_drop_more (place_of p) xs i x h
-      ∙ ap (λ (y : X). cond (p y) (Some 0) (on_by 1 (place_of p (drop (i + 1) xs)))) (sym e)
+  counted : (i : ℕ) (xs : List X) → position_from p i xs ≡ on_by i (place_of p xs)
+  counted i [] = refl
+  counted i (x ∷ xs) = ap (cond (p x) (Some i)) (counted (i + 1) xs) ∙ at_front i (p x) (place_of p xs)
 
-  pub found : (x : X) → i < length xs → x ≡ get_or xs i x → p x ≡ true → Left → place_of p xs ≡ Some i
-  found x h e t left =
-      let z : i + 0 ≡ i = omega arith in
-      left
-      ∙ ap (on_by i) (at_place x h e ∙ ap (λ (b : Bool). cond b (Some 0) (on_by 1 (place_of p (drop (i + 1) xs)))) t)
-      ∙ ap Some z
+  on_by_none : (o : Option ℕ) → on_by 0 o ≡ o
+  on_by_none None = refl
+  on_by_none (Some n) = let e : 0 + n ≡ n = omega arith in ap Some e
 
-  pub passed : (x : X) → i < length xs → x ≡ get_or xs i x → p x ≡ false → Left → place_of p xs ≡ on_by (i + 1) (place_of p (drop (i + 1) xs))
-  passed x h e t left =
-      left
-      ∙ ap (on_by i) (at_place x h e ∙ ap (λ (b : Bool). cond b (Some 0) (on_by 1 (place_of p (drop (i + 1) xs)))) t)
-      ∙ on_by_one i (place_of p (drop (i + 1) xs))
+  pub place_counted : (xs : List X) → position_from p 0 xs ≡ place_of p xs
+  place_counted xs = counted 0 xs ∙ on_by_none (place_of p xs)
 
-  pub nowhere : length xs ≤ i → Left → place_of p xs ≡ None
-  nowhere h left = left ∙ ap (on_by i) (at_drop_all (place_of p) xs i h)
+  -- a place that passes, and none before it does
+  first : (xs : List X) (i : ℕ) → passes p (slice_get xs i) ≡ true → ((k : ℕ) → k < i → passes p (slice_get xs k) ≡ false) → place_of p xs ≡ Some i
+  first [] i t f = no_case t
+  first (x ∷ xs) zero t f = ap (λ (b : Bool). cond b (Some 0) (on_by 1 (place_of p xs))) t
+  first (x ∷ xs) (suc i) t f =
+      let e : 1 + i ≡ suc i = omega arith in
+      ap (λ (b : Bool). cond b (Some 0) (on_by 1 (place_of p xs))) (f 0 (omega arith))
+      ∙ ap (on_by 1) (first xs i t (λ k h. f (suc k) (omega arith)))
+      ∙ ap Some e
 
-  pub borne : (x : X) → i < length xs → x ≡ get_or xs i x → p x ≡ true → (d : X) → p (get_or xs i d) ≡ true
-  borne x h e t d = ap p (sym (get_or_read xs i x h e d)) ∙ t
+  nowhere : (xs : List X) → ((k : ℕ) → k < length xs → passes p (slice_get xs k) ≡ false) → place_of p xs ≡ None
+  nowhere [] f = refl
+  nowhere (x ∷ xs) f =
+      ap (λ (b : Bool). cond b (Some 0) (on_by 1 (place_of p xs))) (f 0 (omega arith))
+      ∙ ap (on_by 1) (nowhere xs (λ k h. f (suc k) (omega arith)))
 
--- within the list there is a record
-there : {X : Type 0} (xs : List X) (i : ℕ) → i < length xs → slice_get xs i ≡ None → ⊥
-there [] i h e = omega arith
-there (x ∷ xs) zero h e = let z : ◌≡◌ {A = ℕ} 0 1 = cc in omega arith
-there (x ∷ xs) (suc i) h e = there xs i (omega arith) e
+  -- the record at a place that passes
+  bears : (xs : List X) (i : ℕ) → passes p (slice_get xs i) ≡ true → BearsAt p xs i
+  bears [] i t d = no_case t
+  bears (x ∷ xs) zero t d = t
+  bears (x ∷ xs) (suc i) t d = bears xs i t d
 
-never : false ≡ true → ⊥
-never e = let z : ◌≡◌ {A = ℕ} 0 1 = cc in omega arith
+  -- what a search by place answers, of n records
+  abbrev pub Found : List X → ℕ → Option ℕ → Type 0
+  Found xs n r = MatchOption r ((k : ℕ) → 0 ≤ k → k < n → passes p (slice_get xs k) ≡ false) (λ i. (0 ≤ i) × (i < n) × (passes p (slice_get xs i) ≡ true) × ((k : ℕ) → 0 ≤ k → k < i → passes p (slice_get xs k) ≡ false))
 
--- the same where the record is read by its place
-module _ {X : Type 0} (p : X → Bool) (xs : List X) (i : ℕ) (h : i < length xs) where
-  -- what was read stands there
-  stands : (x : X) → slice_get xs i ≡ Some x → x ≡ get_or xs i x
-  stands x e = let k = slice_get-get_or xs i x h in cc
+  pub place_found : (xs : List X) (n : ℕ) (r : Option ℕ) → n ≡ length xs → Found xs n r → r ≡ place_of p xs
+  place_found xs n None e m = sym (nowhere xs (λ k h. m k (omega arith) (omega arith)))
+  place_found xs n (Some i) e m = sym (first xs i m.2 (λ k h. m.3 k (omega arith) h))
 
-  by_place : (o : Option X) → slice_get xs i ≡ o → passes p o ≡ true → Left p xs i → (Some i ≡ place_of p xs) × BearsAt p xs i
-  by_place None e t left = absurd (never t)
-  by_place (Some x) e t left = (sym (found p xs i x h (stands x e) t left), borne p xs i x h (stands x e) t)
+  pub found_within : (xs : List X) (n : ℕ) (r : Option ℕ) → n ≡ length xs → Found xs n r → IfSome r (λ i. i < length xs)
+  found_within xs n None e m = tt
+  found_within xs n (Some i) e m = omega arith
 
-  pub found_at : true ≡ passes p (slice_get xs i) → Left p xs i → Some i ≡ place_of p xs
-  found_at t left = (by_place (slice_get xs i) refl (sym t) left).0
-
-  pub borne_at : true ≡ passes p (slice_get xs i) → Left p xs i → BearsAt p xs i
-  borne_at t left = (by_place (slice_get xs i) refl (sym t) left).1
-
-  past_place : (o : Option X) → slice_get xs i ≡ o → passes p o ≡ false → Left p xs i → place_of p xs ≡ on_by (i + 1) (place_of p (drop (i + 1) xs))
-  past_place None e t left = absurd (there xs i h e)
-  past_place (Some x) e t left = passed p xs i x h (stands x e) t left
-
-  pub passed_at : passes p (slice_get xs i) ≡ false → Left p xs i → place_of p xs ≡ on_by (i + 1) (place_of p (drop (i + 1) xs))
-  passed_at t left = past_place (slice_get xs i) refl t left
+  pub borne_there : (xs : List X) (n : ℕ) (r : Option ℕ) → Found xs n r → IfSome r (BearsAt p xs)
+  borne_there xs n None m = tt
+  borne_there xs n (Some i) m = bears xs i m.2

@@ -21,12 +21,7 @@ pub fn find<K: Copy, T: Keyed<K>>(items: &[T], key: K) -> Option<usize>
     ensures within { IfSome result (λ i. i < length items.now) }
     ensures borne { IfSome result (λ i. (d : T) → T.Keyed.bears (slice_index_or items.now i d) key ≡ true) }
 {
-    for (i, x) in items.iter().enumerate() {
-        if x.is_at(key) {
-            return Some(i);
-        }
-    }
-    None
+    items.iter().position(|x| x.is_at(key))
 }
 
 /// A table whose records are read by a call and do not lie in a slice.
@@ -49,12 +44,7 @@ pub fn find_in<K: Copy, R: Keyed<K> + Drop, S: Table<R>>(table: &S, key: K) -> O
     ensures within { IfSome result (λ i. i < length (S.Table.records table.now)) }
     ensures borne { IfSome result (λ i. BearsAt (λ t. R.Keyed.bears t key) (S.Table.records table.now) i) }
 {
-    for place in 0..table.count() {
-        if bears_at(table, place, key) {
-            return Some(place);
-        }
-    }
-    None
+    (0..table.count()).find(|place| bears_at(table, *place, key))
 }
 
 fn bears_at<K: Copy, R: Keyed<K> + Drop, S: Table<R>>(table: &S, place: usize, key: K) -> bool
