@@ -7,7 +7,7 @@ use Rattle.std.proofs.lemmas.Slice.{take-put_mid, take-put_mid_below, drop-put_m
 use Rattle.std.proofs.lemmas.Int.Digits.{number_push}
 use Rattle.std.proofs.lemmas.Nat.{div_below, div-add-mod', div-mul-add, mod-mul-add}
 use Rattle.std.specs.Int.Digits.{AllBelowBase}
-use Rattle.byte_fields.specs.Fields.{be, bytes_of, part, within, spliced, put_at, ReadBack, Rewritten}
+use Rattle.byte_fields.specs.Fields.{be, bytes_of, part, within, spliced, written_at, put_at, ReadBack, Rewritten}
 
 pub length-bytes_of : (k n : ℕ) → length (bytes_of k n) ≡ k
 length-bytes_of zero n = refl
@@ -89,16 +89,16 @@ pub spliced-part : (k at : ℕ) (s : List ℕ) → spliced k at (part k at s) s 
 spliced-part k at s = ap (λ (t : List ℕ). take at s ++ t) (take-append-drop k (drop at s)) ∙ take-append-drop at s
 
 -- a write that lies within happens
-pub put_within : (k at n : ℕ) (s : List ℕ) → k + at ≤ length s → put_at k at n s ≡ spliced k at (bytes_of k n) s
-put_within k at n s h = let e = le-leb (k + at) (length s) h in rw e
+pub written_within : (k at : ℕ) (ys s : List ℕ) → k + at ≤ length s → written_at k at ys s ≡ spliced k at ys s
+written_within k at ys s h = let e = le-leb (k + at) (length s) h in rw e
 
--- a number written right behind k bytes that were written
-pub put_behind : (k j at n : ℕ) (ys s t : List ℕ) → t ≡ spliced k at ys s → length ys ≡ k → (k + j) + at ≤ length s → put_at j (at + k) n t ≡ spliced (k + j) at (ys ++ bytes_of j n) s
-put_behind k j at n ys s t is len fits =
+-- bytes written right behind k bytes that were written
+pub written_behind : (k j at : ℕ) (ys zs s t : List ℕ) → t ≡ spliced k at ys s → length ys ≡ k → (k + j) + at ≤ length s → written_at j (at + k) zs t ≡ spliced (k + j) at (ys ++ zs) s
+written_behind k j at ys zs s t is len fits =
     let l : length t ≡ length s = ap length is ∙ length-spliced k at ys s (omega arith) len in
-    put_within j (at + k) n t (omega arith)
-    ∙ ap (spliced j (at + k) (bytes_of j n)) is
-    ∙ spliced-spliced k j at ys (bytes_of j n) s (omega arith) len
+    written_within j (at + k) zs t (omega arith)
+    ∙ ap (spliced j (at + k) zs) is
+    ∙ spliced-spliced k j at ys zs s (omega arith) len
 
 pub length-put_at : (k at n : ℕ) (s : List ℕ) → length (put_at k at n s) ≡ length s
 length-put_at k at n s = by (leb (k + at) (length s)) refl
@@ -112,14 +112,14 @@ read_back k at n s h w =
     let f : k + at ≤ length s = leb-true _ _ w in
     let l : length (put_at k at n s) ≡ length s = length-put_at k at n s in
     let t : within k at (put_at k at n s) ≡ true = le-leb _ _ (omega arith) in
-    let p : part k at (put_at k at n s) ≡ bytes_of k n = ap (part k at) (put_within k at n s f) ∙ part_same k at (bytes_of k n) s f (length-bytes_of k n) in
+    let p : part k at (put_at k at n s) ≡ bytes_of k n = ap (part k at) (written_within k at (bytes_of k n) s f) ∙ part_same k at (bytes_of k n) s f (length-bytes_of k n) in
     ap (λ (b : Bool). cond b (Some (be (part k at (put_at k at n s)))) None) t ∙ ap (λ (ys : List ℕ). Some (be ys)) p ∙ ap Some (be-bytes_of k n h)
 
 pub rewritten : Rewritten
 rewritten k at s u w =
     let f : k + at ≤ length s = leb-true _ _ w in
     let l : length (part k at s) ≡ k = length-take-le k (drop at s) (simp length-drop (omega arith)) in
-    put_within k at (be (part k at s)) s f
+    written_within k at (bytes_of k (be (part k at s))) s f
     ∙ ap (λ (ys : List ℕ). spliced k at ys s) (bytes_of-be k (part k at s) l (All-take (λ x. x < 256) k (drop at s) (All-drop (λ x. x < 256) at s u)))
     ∙ spliced-part k at s
 

@@ -5,8 +5,8 @@ use Rattle.std.proofs.lemmas.List.{take_at, drop_at, take_all, append_assoc, get
 use Rattle.std.proofs.lemmas.Int.{to_z-of_z}
 use Rattle.std.proofs.lemmas.Bool.{cases_order}
 use Rattle.std.specs.List.{slice_get}
-use Rattle.byte_fields.specs.Fields.{be, bytes_of, part, spliced, put_at}
-use Rattle.byte_fields.proofs.Widths.{be-bytes_of, length-spliced, part_same, part_apart, part_inside, spliced-spliced, put_within}
+use Rattle.byte_fields.specs.Fields.{be, bytes_of, part, spliced, signed_be, signed_bytes_of, put_at}
+use Rattle.byte_fields.proofs.Widths.{be-bytes_of, length-spliced, part_same, part_apart, part_inside, spliced-spliced, written_within}
 use Rattle.registers.specs.declared.row.Key.{Key}
 use Rattle.registers.specs.declared.row.Figures.{Figures}
 use Rattle.registers.specs.declared.row.Row.{Row}
@@ -14,6 +14,7 @@ use Rattle.registers.specs.declared.fault.StoreFault.{StoreFault}
 use Rattle.registers.specs.declared.fault.StoreFault.TheVariants.{Full, NotOpen}
 use Rattle.registers.specs.Stores.{put_row, put_answer, add_row, add_answer, with_figures}
 use Rattle.registers.proofs.Rows.{put_accepted, put_refused, put_row_past, add_accepted, add_refused}
+use Rattle.registers.specs.Bounds.{length-rows_from, length-image_rows, room_small}
 use Rattle.registers.specs.Images.{marked, room_of, count_of, key_at, figures_at, row_at, rows_from, image_rows, key_bytes, figure_bytes, row_bytes, row_place, put_bytes, add_bytes}
 
 -- keys, figures and rows are their parts
@@ -59,7 +60,7 @@ pub record FiguresFit (f : Figures) : Type 0 where
   pub blocked : SFits w64 f.blocked
   pub third : SFits w64 f.third
 
-signed_back : (z : ℤ) → SFits w64 z → to_z w64 (be (bytes_of 8 (of_z w64 z))) ≡ z
+signed_back : (z : ℤ) → SFits w64 z → signed_be (signed_bytes_of z) ≡ z
 signed_back z f =
     let l : of_z w64 z < 256 ^ 8 = (Fits-of_z f).fits in
     ap (λ (n : ℕ). to_z w64 n) (be-bytes_of 8 (of_z w64 z) l) ∙ to_z-of_z w64 z f
@@ -81,15 +82,15 @@ key_written at s k fits h =
 pub figures_written : (at : ℕ) (s : List ℕ) (f : Figures) → FiguresFit f → 24 + at ≤ length s → figures_at at (spliced 24 at (figure_bytes f) s) ≡ f
 unfolding figures_at figure_bytes
 figures_written at s f fits h =
-    let a : List ℕ = bytes_of 8 (of_z w64 f.limit) in
-    let b : List ℕ = bytes_of 8 (of_z w64 f.blocked) in
-    let c : List ℕ = bytes_of 8 (of_z w64 f.third) in
+    let a : List ℕ = signed_bytes_of f.limit in
+    let b : List ℕ = signed_bytes_of f.blocked in
+    let c : List ℕ = signed_bytes_of f.third in
     let l = length-figure_bytes f in
     let z : at + 0 ≡ at = omega arith in
     let x : part 8 at (spliced 24 at (figure_bytes f) s) ≡ a = ap (λ (n : ℕ). part 8 n (spliced 24 at (figure_bytes f) s)) (sym z) ∙ part_inside 24 at 8 0 (figure_bytes f) s h l (omega arith) ∙ first_part a b c 8 8 8 refl refl refl in
     let y : part 8 (at + 8) (spliced 24 at (figure_bytes f) s) ≡ b = part_inside 24 at 8 8 (figure_bytes f) s h l (omega arith) ∙ second_part a b c 8 8 8 refl refl refl in
     let w : part 8 (at + 16) (spliced 24 at (figure_bytes f) s) ≡ c = part_inside 24 at 8 16 (figure_bytes f) s h l (omega arith) ∙ third_part a b c 8 8 8 refl refl refl in
-    same_figures (ap (λ (n : List ℕ). to_z w64 (be n)) x ∙ signed_back f.limit fits.limit) (ap (λ (n : List ℕ). to_z w64 (be n)) y ∙ signed_back f.blocked fits.blocked) (ap (λ (n : List ℕ). to_z w64 (be n)) w ∙ signed_back f.third fits.third)
+    same_figures (ap signed_be x ∙ signed_back f.limit fits.limit) (ap signed_be y ∙ signed_back f.blocked fits.blocked) (ap signed_be w ∙ signed_back f.third fits.third)
 
 -- a write elsewhere leaves them
 module _ (k b : ℕ) (ys s : List ℕ) (fits : k + b ≤ length s) (len : length ys ≡ k) where
@@ -108,7 +109,7 @@ module _ (k b : ℕ) (ys s : List ℕ) (fits : k + b ≤ length s) (len : length
   pub figures_apart : (at : ℕ) → (24 + at ≤ b) ⊎ (k + b ≤ at) → figures_at at (spliced k b ys s) ≡ figures_at at s
   unfolding figures_at
   figures_apart at h =
-      same_figures (ap (λ (n : List ℕ). to_z w64 (be n)) (start_apart 24 at 8 (omega arith) h)) (ap (λ (n : List ℕ). to_z w64 (be n)) (within_apart 24 at 8 8 (omega arith) h)) (ap (λ (n : List ℕ). to_z w64 (be n)) (within_apart 24 at 8 16 (omega arith) h))
+      same_figures (ap signed_be (start_apart 24 at 8 (omega arith) h)) (ap signed_be (within_apart 24 at 8 8 (omega arith) h)) (ap signed_be (within_apart 24 at 8 16 (omega arith) h))
 
   pub row_apart : (at : ℕ) → (31 + at ≤ b) ⊎ (k + b ≤ at) → row_at at (spliced k b ys s) ≡ row_at at s
   row_apart at (inl h) = same_row (key_apart at (inl (omega arith))) (figures_apart (at + 7) (inl (omega arith)))
@@ -132,10 +133,6 @@ row_put at s f ff h =
     (figures_written (at + 7) s f ff (omega arith))
 
 -- rows one after the other
-pub length-rows_from : (n at : ℕ) (s : List ℕ) → length (rows_from n at s) ≡ n
-length-rows_from zero at s = refl
-length-rows_from (suc n) at s = ap suc (length-rows_from n (at + 31) s)
-
 pub nth_rows_from : (n i at : ℕ) (s : List ℕ) → i < n → slice_get (rows_from n at s) i ≡ Some (row_at (at + i * 31) s)
 nth_rows_from zero i at s h = absurd (omega arith)
 nth_rows_from (suc n) zero at s h = let e : at ≡ at + 0 * 31 = omega arith in ap (λ (a : ℕ). Some (row_at a s)) e
@@ -188,9 +185,6 @@ module _ (s t : List ℕ) where
       let b : rows_from (suc n) (at + 31) t ≡ rows_from n (at + 31) s ++ r ∷ [] = rows_add n (at + 31) r (λ j h. next_row at j (same (suc j) (omega arith))) (ap (λ (a : ℕ). row_at a t) y ∙ new) in
       ap (λ (x : Row). x ∷ rows_from (suc n) (at + 31) t) a ∙ ap (λ (rs : List Row). row_at at s ∷ rs) b
 
-pub length-image_rows : (s : List ℕ) → length (image_rows s) ≡ count_of s
-length-image_rows s = length-rows_from (count_of s) 7 s
-
 -- where there is room for a row, the bytes hold all that there is room for
 room_by : (b : Bool) (l i : ℕ) → i < cond b (min ((l - 7) / 31) 4096) 0 → 7 + cond b (min ((l - 7) / 31) 4096) 0 * 31 ≤ l
 room_by true l i h = omega arith
@@ -198,16 +192,6 @@ room_by false l i h = absurd (omega arith)
 
 pub room_long : (s : List ℕ) (i : ℕ) → i < room_of s → 7 + room_of s * 31 ≤ length s
 room_long s i h = room_by (marked s) (length s) i h
-
-few : (b : Bool) (n : ℕ) → cond b (min n 4096) 0 ≤ 4096
-few true n = omega arith
-few false n = omega arith
-
-pub room_small : (s : List ℕ) → room_of s ≤ 4096
-room_small s = few (marked s) ((length s - 7) / 31)
-
-pub count_within : (s : List ℕ) → length (image_rows s) ≤ room_of s
-count_within s = rw length-image_rows (omega arith)
 
 -- the mark and the room rest on the length and the first five bytes
 module _ (s t : List ℕ) (l : length t ≡ length s) (e : take 5 t ≡ take 5 s) where
@@ -318,7 +302,7 @@ add_done s u t r kf ff h is after =
     let d = image_add s r kf ff h in
     let whole : 7 + room_of s * 31 ≤ length s = room_long s (count_of s) h in
     let l : length u ≡ length s = ap length is ∙ length-spliced 31 (row_place (count_of s)) (row_bytes r) s (omega arith) (length-row_bytes r) in
-    let t_is : t ≡ spliced 2 5 (bytes_of 2 (count_of s + 1)) (spliced 31 (row_place (count_of s)) (row_bytes r) s) = after ∙ put_within 2 5 (count_of s + 1) u (omega arith) ∙ ap (spliced 2 5 (bytes_of 2 (count_of s + 1))) is in
+    let t_is : t ≡ spliced 2 5 (bytes_of 2 (count_of s + 1)) (spliced 31 (row_place (count_of s)) (row_bytes r) s) = after ∙ written_within 2 5 (bytes_of 2 (count_of s + 1)) u (omega arith) ∙ ap (spliced 2 5 (bytes_of 2 (count_of s + 1))) is in
     let a = add_accepted (image_rows s) (room_of s) r (rw length-image_rows h) in
     let e : ltb (count_of s) (room_of s) ≡ true = lt-ltb (count_of s) (room_of s) h in
     record {

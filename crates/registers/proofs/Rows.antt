@@ -7,6 +7,7 @@ use Rattle.registers.specs.declared.row.Figures.{Figures}
 use Rattle.registers.specs.declared.row.Row.{Row}
 use Rattle.registers.specs.declared.fault.StoreFault.TheVariants.{Full, NotOpen}
 use Rattle.registers.specs.Stores.{put_row, put_answer, add_row, add_answer, with_figures}
+use Rattle.registers.specs.Bounds.{length-table_rows}
 use Rattle.registers.specs.Tables.{table_room, table_held, table_rows}
 
 pub length-put_row : (rs : List Row) (i : ℕ) (f : Figures) → length (put_row rs i f) ≡ length rs
@@ -33,9 +34,6 @@ pub add_refused : (rs : List Row) (room : ℕ) (r : Row) → room ≤ length rs 
 add_refused rs room r h = let e = le-ltb (length rs) room h in (rw e, rw e)
 
 -- the rows of a table
-pub length-table_rows : (t : List Row) (filled : ℕ) → length (table_rows t filled) ≡ table_held t filled
-length-table_rows t filled = length-take (table_held t filled) t ∙ omega arith
-
 pub table_row : (t : List Row) (filled i : ℕ) (d : Row) → i < table_held t filled → Some (get_or t i d) ≡ slice_get (table_rows t filled) i
 table_row t filled i d h =
     let l : i < length (table_rows t filled) = omega (arith, length-table_rows t filled) in

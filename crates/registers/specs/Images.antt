@@ -1,9 +1,7 @@
 -- An image of a store, byte by byte: the letters LRI, a version of 2 bytes, a count of 2 bytes, and
 -- then 31 bytes a row: kind 1, code 4, security 2, and three figures of 8 in two's complement.
 use Rattle.std.specs.Prelude.{ℕ, zero, suc, ◌+◌, ◌-◌, ◌*◌, ◌/◌, min, Bool, cond, ◌&&◌, List, [], ◌∷◌, ◌++◌, length, ◌==◌, nat_le, nat_lt, slice_index}
-use Rattle.std.proofs.Common.{to_z, of_z}
-use Rattle.std.specs.Int.{w64}
-use Rattle.byte_fields.specs.Fields.{be, bytes_of, part, spliced}
+use Rattle.byte_fields.specs.Fields.{be, signed_be, bytes_of, signed_bytes_of, part, spliced}
 use Rattle.registers.specs.declared.row.Key.{Key}
 use Rattle.registers.specs.declared.row.Figures.{Figures}
 use Rattle.registers.specs.declared.row.Row.{Row}
@@ -24,7 +22,7 @@ unfoldable pub key_at : ℕ → List ℕ → Key
 key_at at s = record { kind = be (part 1 at s); code = be (part 4 (at + 1) s); security = be (part 2 (at + 5) s) }
 
 unfoldable pub figures_at : ℕ → List ℕ → Figures
-figures_at at s = record { limit = to_z w64 (be (part 8 at s)); blocked = to_z w64 (be (part 8 (at + 8) s)); third = to_z w64 (be (part 8 (at + 16) s)) }
+figures_at at s = record { limit = signed_be (part 8 at s); blocked = signed_be (part 8 (at + 8) s); third = signed_be (part 8 (at + 16) s) }
 
 abbrev pub row_at : ℕ → List ℕ → Row
 row_at at s = record { key = key_at at s; figures = figures_at (at + 7) s }
@@ -43,7 +41,7 @@ unfoldable pub key_bytes : Key → List ℕ
 key_bytes k = (bytes_of 1 k.kind ++ bytes_of 4 k.code) ++ bytes_of 2 k.security
 
 unfoldable pub figure_bytes : Figures → List ℕ
-figure_bytes f = (bytes_of 8 (of_z w64 f.limit) ++ bytes_of 8 (of_z w64 f.blocked)) ++ bytes_of 8 (of_z w64 f.third)
+figure_bytes f = (signed_bytes_of f.limit ++ signed_bytes_of f.blocked) ++ signed_bytes_of f.third
 
 abbrev pub row_bytes : Row → List ℕ
 row_bytes r = key_bytes r.key ++ figure_bytes r.figures

@@ -3,3 +3,4 @@ pub mod Registers
 pub mod Stores
 pub mod Tables
 pub mod Images
+pub mod Bounds

@@ -1,50 +1,13 @@
 //! Amounts of money: what a quantity costs at a price, and the collateral that its risk asks for.
 
 ghost use Rattle.std.specs.Prelude.{◌≡◌, ◌*◌, ◌≤◌};
-ghost use Rattle.std.specs.Option.{option_map};
-ghost use Rattle.registers.specs.Amounts.{money_of, risk_of, ranged, rounded, RoundedNear, RoundedMonotone, RoundedNone};
+ghost use Rattle.registers.specs.Amounts.{money_of, risk_of, rounded, RoundedNear, RoundedMonotone, RoundedNone};
 
 use crate::ranges::{Amount, Price, Quantity, Ratio};
 
-impl Price {
-    /// The price of `value` ten-thousandths of a ruble, or `None` outside 1 to 100,000,000.
-    pub fn new(value: u32) -> Option<Price>
-        ensures { option_map (λ p. p.value) result ≡ ranged 1 100000000 value }
-    {
-        if value < 1 || value > 100_000_000 {
-            return None;
-        }
-        Some(Price { value })
-    }
-}
-
-impl Quantity {
-    /// The quantity of `count` securities, or `None` outside 1 to 1,000,000.
-    pub fn new(count: u32) -> Option<Quantity>
-        ensures { option_map (λ q. q.count) result ≡ ranged 1 1000000 count }
-    {
-        if count < 1 || count > 1_000_000 {
-            return None;
-        }
-        Some(Quantity { count })
-    }
-}
-
-impl Ratio {
-    /// The ratio of `value` ten-thousandths, or `None` outside 1 to 10,000.
-    pub fn new(value: u32) -> Option<Ratio>
-        ensures { option_map (λ k. k.value) result ≡ ranged 1 10000 value }
-    {
-        if value < 1 || value > 10_000 {
-            return None;
-        }
-        Some(Ratio { value })
-    }
-}
-
 /// The kopecks that `quantity` costs at `price`: their product by 100, rounded once, a half upwards.
 pub fn money(quantity: Quantity, price: Price) -> Amount
-    ensures value { result.units ≡ money_of quantity.count price.value }
+    ensures value { result.units ≡ money_of quantity.value price.value }
     ensures bound { result.units ≤ 1000000000000 }
 {
     let units = hundredths(product(quantity, price));
@@ -54,7 +17,7 @@ pub fn money(quantity: Quantity, price: Price) -> Amount
 /// The kopecks of collateral for `quantity` at `price` under `ratio`: their product by 1,000,000,
 /// rounded once, a half upwards.
 pub fn risk(quantity: Quantity, price: Price, ratio: Ratio) -> Amount
-    ensures value { result.units ≡ risk_of quantity.count price.value ratio.value }
+    ensures value { result.units ≡ risk_of quantity.value price.value ratio.value }
     ensures bound { result.units ≤ 1000000000000 }
 {
     let units = millionths(product(quantity, price), ratio);
@@ -62,10 +25,10 @@ pub fn risk(quantity: Quantity, price: Price, ratio: Ratio) -> Amount
 }
 
 fn product(quantity: Quantity, price: Price) -> u64
-    ensures value { result ≡ quantity.count * price.value }
+    ensures value { result ≡ quantity.value * price.value }
     ensures bound { result ≤ 100000000000000 }
 {
-    u64::from(quantity.count) * u64::from(price.value)
+    u64::from(quantity.value) * u64::from(price.value)
 }
 
 fn hundredths(product: u64) -> u64

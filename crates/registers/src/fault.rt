@@ -1,12 +1,12 @@
 //! What a store refuses.
 
 /// A store's fault. Each has its refusal number.
-#[derive(Clone, Copy)]
+#[derive(Clone, Copy, PartialEq, Eq, Debug)]
 pub enum StoreFault {
     /// 2: the count of rows equals the room.
-    Full,
+    Full = 2,
     /// 6: there is no such register.
-    NotOpen,
+    NotOpen = 6,
     /// 25: figures that were read are out of range.
-    OutOfRange,
+    OutOfRange = 25,
 }

@@ -24,19 +24,11 @@ impl Figures {
         ensures answer { result ≡ in_range self }
         ensures bounds { result ≡ true → Bounded self }
     {
-        if !is_bounded(self.limit) {
-            return false;
-        }
-        if !is_bounded(self.blocked) {
-            return false;
-        }
-        if !is_bounded(self.third) {
-            return false;
-        }
-        if !is_bounded(self.limit + self.third) {
-            return false;
-        }
-        0 <= self.third
+        is_bounded(self.limit)
+            && is_bounded(self.blocked)
+            && is_bounded(self.third)
+            && is_bounded(self.limit + self.third)
+            && 0 <= self.third
     }
 }
 
@@ -45,11 +37,7 @@ impl StoreFault {
     pub fn number(self) -> u8
         ensures { result ≡ fault_number self }
     {
-        match self {
-            StoreFault::Full => 2,
-            StoreFault::NotOpen => 6,
-            StoreFault::OutOfRange => 25,
-        }
+        self as u8
     }
 }
 
@@ -57,6 +45,6 @@ impl Keyed<Key> for Row {
     ghost bears = { λ r k. same_key r.key k };
 
     fn is_at(&self, key: Key) -> bool {
-        self.key.kind == key.kind && self.key.code == key.code && self.key.security == key.security
+        self.key == key
     }
 }

@@ -4,11 +4,13 @@ ghost use Rattle.std.specs.Prelude.{◌≡◌, ◌+◌, ◌-◌, ◌*◌, ◌/�
 ghost use Rattle.std.specs.List.{slice_get};
 ghost use Rattle.byte_fields.specs.Fields.{spliced};
 ghost use Rattle.registers.specs.Stores.{place_for, put_row, put_answer, add_row, add_answer};
+ghost use Rattle.registers.specs.Bounds.{image_bounded};
 ghost use Rattle.registers.specs.Images.{key_at, figures_at, row_at, marked, room_of, count_of, image_rows, key_bytes, figure_bytes, row_bytes, put_bytes, add_bytes, formatted};
 
 use crate::fault::StoreFault;
 use crate::row::{Figures, Key, Row};
 use crate::store::Store;
+use byte_fields::{read, write};
 use seek::Table;
 
 /// Bytes before the first row: mark, version and count.
@@ -40,8 +42,8 @@ fn count_of(bytes: &[u8]) -> usize
     ensures { result ≡ count_of bytes.now }
 {
     let room = room_of(bytes);
-    match byte_fields::u16_at(bytes, 5) {
-        Some(count) => (count as usize).min(room),
+    match read::<u16>(bytes, 5) {
+        Some(count) => usize::from(count).min(room),
         None => 0,
     }
 }
@@ -50,13 +52,10 @@ fn key_at(bytes: &[u8], at: usize) -> Option<Key>
     requires { at + 7 ≤ length bytes.now }
     ensures { result ≡ Some (key_at at bytes.now) }
 {
-    let kind = byte_fields::u8_at(bytes, at)?;
-    let code = byte_fields::u32_at(bytes, at + 1)?;
-    let security = byte_fields::u16_at(bytes, at + 5)?;
     Some(Key {
-        kind,
-        code,
-        security,
+        kind: read(bytes, at)?,
+        code: read(bytes, at + 1)?,
+        security: read(bytes, at + 5)?,
     })
 }
 
@@ -64,13 +63,10 @@ fn figures_at(bytes: &[u8], at: usize) -> Option<Figures>
     requires { at + 24 ≤ length bytes.now }
     ensures { result ≡ Some (figures_at at bytes.now) }
 {
-    let limit = byte_fields::i64_at(bytes, at)?;
-    let blocked = byte_fields::i64_at(bytes, at + 8)?;
-    let third = byte_fields::i64_at(bytes, at + 16)?;
     Some(Figures {
-        limit,
-        blocked,
-        third,
+        limit: read(bytes, at)?,
+        blocked: read(bytes, at + 8)?,
+        third: read(bytes, at + 16)?,
     })
 }
 
@@ -78,9 +74,10 @@ fn row_at(bytes: &[u8], at: usize) -> Option<Row>
     requires { at + 31 ≤ length bytes.now }
     ensures { result ≡ Some (row_at at bytes.now) }
 {
-    let key = key_at(bytes, at)?;
-    let figures = figures_at(bytes, at + 7)?;
-    Some(Row { key, figures })
+    Some(Row {
+        key: key_at(bytes, at)?,
+        figures: figures_at(bytes, at + 7)?,
+    })
 }
 
 fn row_in(bytes: &[u8], place: usize) -> Option<Row>
@@ -120,18 +117,18 @@ fn write_key(bytes: &mut [u8], at: usize, key: Key)
     requires { at + 7 ≤ length bytes.old }
     ensures { bytes.new ≡ spliced 7 at (key_bytes key) bytes.old }
 {
-    byte_fields::put_u8(bytes, at, key.kind);
-    byte_fields::put_u32(bytes, at + 1, key.code);
-    byte_fields::put_u16(bytes, at + 5, key.security);
+    let _ = write(bytes, at, key.kind);
+    let _ = write(bytes, at + 1, key.code);
+    let _ = write(bytes, at + 5, key.security);
 }
 
 fn write_figures(bytes: &mut [u8], at: usize, figures: Figures)
     requires { at + 24 ≤ length bytes.old }
     ensures { bytes.new ≡ spliced 24 at (figure_bytes figures) bytes.old }
 {
-    byte_fields::put_i64(bytes, at, figures.limit);
-    byte_fields::put_i64(bytes, at + 8, figures.blocked);
-    byte_fields::put_i64(bytes, at + 16, figures.third);
+    let _ = write(bytes, at, figures.limit);
+    let _ = write(bytes, at + 8, figures.blocked);
+    let _ = write(bytes, at + 16, figures.third);
 }
 
 fn write_row(bytes: &mut [u8], at: usize, row: Row)
@@ -181,7 +178,7 @@ fn add_in(bytes: &mut [u8], row: Row) -> Result<(), StoreFault>
         return Err(StoreFault::Full);
     }
     write_row(bytes, HEADER + count * ROW, row);
-    byte_fields::put_u16(bytes, 5, count as u16 + 1);
+    let _ = write(bytes, 5, count as u16 + 1);
     Ok(())
 }
 
@@ -207,30 +204,6 @@ impl<'a> ImageStore<'a> {
     {
         self.bytes
     }
-
-    fn held(&self) -> usize
-        ensures { result ≡ count_of self.now.bytes.now }
-    {
-        count_of(self.bytes)
-    }
-
-    fn size(&self) -> usize
-        ensures { result ≡ room_of self.now.bytes.now }
-    {
-        room_of(self.bytes)
-    }
-
-    fn at(&self, place: usize) -> Option<Row>
-        ensures { result ≡ slice_get (image_rows self.now.bytes.now) place }
-    {
-        row_in(self.bytes, place)
-    }
-
-    fn place_of(&self, key: Key) -> Option<usize>
-        ensures { result ≡ place_for key (image_rows self.now.bytes.now) }
-    {
-        find_in(self.bytes, key)
-    }
 }
 
 impl Store for ImageStore<'_> {
@@ -238,28 +211,26 @@ impl Store for ImageStore<'_> {
 
     ghost capacity = { λ s. room_of s.bytes.now };
 
+    ghost bounded = { λ s. image_bounded s.bytes.now };
+
     fn count(&mut self) -> usize
         ensures answer { result ≡ length (image_rows self.old.bytes.now) }
         ensures kept { image_rows self.new.bytes.now ≡ image_rows self.old.bytes.now }
         ensures roomy { room_of self.new.bytes.now ≡ room_of self.old.bytes.now }
-        ensures within { length (image_rows self.old.bytes.now) ≤ room_of self.old.bytes.now }
-        ensures small { room_of self.old.bytes.now ≤ 4096 }
         ensures bytes { self.new.bytes.now ≡ self.old.bytes.now }
         ensures lent { self.new.bytes.ghost_name ≡ self.old.bytes.ghost_name }
     {
-        self.held()
+        count_of(self.bytes())
     }
 
     fn room(&mut self) -> usize
         ensures answer { result ≡ room_of self.old.bytes.now }
         ensures kept { image_rows self.new.bytes.now ≡ image_rows self.old.bytes.now }
         ensures roomy { room_of self.new.bytes.now ≡ room_of self.old.bytes.now }
-        ensures within { length (image_rows self.old.bytes.now) ≤ room_of self.old.bytes.now }
-        ensures small { room_of self.old.bytes.now ≤ 4096 }
         ensures bytes { self.new.bytes.now ≡ self.old.bytes.now }
         ensures lent { self.new.bytes.ghost_name ≡ self.old.bytes.ghost_name }
     {
-        self.size()
+        room_of(self.bytes())
     }
 
     fn row(&mut self, place: usize) -> Option<Row>
@@ -269,7 +240,7 @@ impl Store for ImageStore<'_> {
         ensures bytes { self.new.bytes.now ≡ self.old.bytes.now }
         ensures lent { self.new.bytes.ghost_name ≡ self.old.bytes.ghost_name }
     {
-        self.at(place)
+        row_in(self.bytes(), place)
     }
 
     fn find(&mut self, key: Key) -> Option<usize>
@@ -279,7 +250,7 @@ impl Store for ImageStore<'_> {
         ensures bytes { self.new.bytes.now ≡ self.old.bytes.now }
         ensures lent { self.new.bytes.ghost_name ≡ self.old.bytes.ghost_name }
     {
-        self.place_of(key)
+        find_in(self.bytes(), key)
     }
 
     fn put(&mut self, place: usize, figures: Figures) -> Result<(), StoreFault>

@@ -22,17 +22,13 @@ pub trait Store {
     fn count(&mut self) -> usize
         ensures answer { result ≡ length (rows self.old) }
         ensures kept { rows self.new ≡ rows self.old }
-        ensures roomy { capacity self.new ≡ capacity self.old }
-        ensures within { length (rows self.old) ≤ capacity self.old }
-        ensures small { capacity self.old ≤ 4096 };
+        ensures roomy { capacity self.new ≡ capacity self.old };
 
     /// How many rows there may be.
     fn room(&mut self) -> usize
         ensures answer { result ≡ capacity self.old }
         ensures kept { rows self.new ≡ rows self.old }
-        ensures roomy { capacity self.new ≡ capacity self.old }
-        ensures within { length (rows self.old) ≤ capacity self.old }
-        ensures small { capacity self.old ≤ 4096 };
+        ensures roomy { capacity self.new ≡ capacity self.old };
 
     /// The row at a place, counted from 0, or `None` beyond the last.
     fn row(&mut self, place: usize) -> Option<Row>
@@ -58,4 +54,7 @@ pub trait Store {
         ensures answer { result ≡ add_answer (rows self.old) (capacity self.old) }
         ensures after { rows self.new ≡ add_row (rows self.old) (capacity self.old) row }
         ensures roomy { capacity self.new ≡ capacity self.old };
+
+    /// No store holds more rows than it has room for, and none has room for more than 4,096.
+    ghost bounded: { (s : Self) → (length (rows s) ≤ capacity s) × (capacity s ≤ 4096) };
 }

@@ -3,6 +3,7 @@
 ghost use Rattle.std.specs.Prelude.{◌≡◌, ◌<◌, min, [], length};
 ghost use Rattle.std.specs.List.{slice_get};
 ghost use Rattle.registers.specs.Stores.{place_for};
+ghost use Rattle.registers.specs.Bounds.{table_bounded};
 ghost use Rattle.registers.specs.Tables.{table_room, table_held, table_rows};
 
 use crate::fault::StoreFault;
@@ -59,6 +60,8 @@ impl Store for RowStore<'_> {
     ghost rows = { λ s. table_rows s.table.now s.filled };
 
     ghost capacity = { λ s. table_room s.table.now };
+
+    ghost bounded = { λ s. table_bounded s.table.now s.filled };
 
     fn count(&mut self) -> usize {
         self.held()

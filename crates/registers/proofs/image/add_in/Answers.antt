@@ -15,6 +15,6 @@ returns c =
     let ff : FiguresFit c.args.row.figures = record { limit = search rules; blocked = search rules; third = search rules } in
     let n : c.count_of-count.result ≡ count_of c.args.bytes.now = c.count_of-count.ensures in
     let u = c.write_row.ensures ∙ ap (λ (k : ℕ). spliced 31 (row_place k) (row_bytes c.args.row) c.args.bytes.now) n in
-    let t = c.put_u16.ensures.after ∙ ap (λ (k : ℕ). put_at 2 5 (k + 1) c.write_row.new.bytes) n in
-    let d = add_done c.args.bytes.now c.write_row.new.bytes c.put_u16.new.bytes c.args.row kf ff (omega arith) u t in
+    let t = c.write.ensures.after ∙ ap (λ (k : ℕ). put_at 2 5 (k + 1) c.write_row.new.bytes) n in
+    let d = add_done c.args.bytes.now c.write_row.new.bytes c.write.new.bytes c.args.row kf ff (omega arith) u t in
     record { answer = d.answered; after = d.rows; roomy = d.room; bytes = d.bytes }

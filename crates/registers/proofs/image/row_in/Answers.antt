@@ -1,7 +1,8 @@
 use Rattle.std.proofs.Common.{sym, ◌∙◌, arith}
 use Rattle.std.proofs.lemmas.Option.{slice_get_past}
 use Rattle.registers.specs.Images.{count_of, image_rows}
-use Rattle.registers.proofs.Images.{length-image_rows, nth_rows_from}
+use Rattle.registers.specs.Bounds.{length-image_rows}
+use Rattle.registers.proofs.Images.{nth_rows_from}
 use Rattle.registers.proofs.image.row_in.Goals as goal
 
 pub returns-then-place-count_of : goal.returns-then-place-count_of

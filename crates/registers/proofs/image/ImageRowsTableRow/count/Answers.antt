@@ -1,5 +1,5 @@
 use Rattle.std.proofs.Common.{sym, ◌∙◌}
-use Rattle.registers.proofs.Images.{length-image_rows}
+use Rattle.registers.specs.Bounds.{length-image_rows}
 use Rattle.registers.proofs.image.ImageRowsTableRow.count.Goals as goal
 
 pub returns : goal.returns

@@ -1,5 +1,6 @@
 use Rattle.std.proofs.Common.{rules}
-use Rattle.registers.proofs.Rows.{table_put, table_room_lem, put_accepted, put_refused, put_row_past, length-table_rows}
+use Rattle.registers.proofs.Rows.{table_put, table_room_lem, put_accepted, put_refused, put_row_past}
+use Rattle.registers.specs.Bounds.{length-table_rows}
 use Rattle.registers.proofs.table.RowStoreStore.put.Goals as goal
 
 pub returns-then-place-held : goal.returns-then-place-held

@@ -1,0 +1,28 @@
+-- How many rows the two stores hold: never more than there is room for, and 4,096 at most.
+use Rattle.std.proofs.Common.{◌≡◌, ℕ, zero, suc, ◌+◌, ◌≤◌, min, Bool, true, false, cond, List, length, refl, ap, ◌∙◌, arith, length-take}
+use Rattle.registers.specs.declared.row.Row.{Row}
+use Rattle.registers.specs.Images.{marked, room_of, count_of, rows_from, image_rows}
+use Rattle.registers.specs.Tables.{table_room, table_held, table_rows}
+
+pub length-rows_from : (n at : ℕ) (s : List ℕ) → length (rows_from n at s) ≡ n
+length-rows_from zero at s = refl
+length-rows_from (suc n) at s = ap suc (length-rows_from n (at + 31) s)
+
+pub length-image_rows : (s : List ℕ) → length (image_rows s) ≡ count_of s
+length-image_rows s = length-rows_from (count_of s) 7 s
+
+few : (b : Bool) (n : ℕ) → cond b (min n 4096) 0 ≤ 4096
+few true n = omega arith
+few false n = omega arith
+
+pub room_small : (s : List ℕ) → room_of s ≤ 4096
+room_small s = few (marked s) _
+
+pub image_bounded : (s : List ℕ) → (length (image_rows s) ≤ room_of s) × (room_of s ≤ 4096)
+image_bounded s = (omega (arith, length-image_rows s), room_small s)
+
+pub length-table_rows : (t : List Row) (filled : ℕ) → length (table_rows t filled) ≡ table_held t filled
+length-table_rows t filled = length-take (table_held t filled) t ∙ omega arith
+
+pub table_bounded : (t : List Row) (filled : ℕ) → (length (table_rows t filled) ≤ table_room t) × (table_room t ≤ 4096)
+table_bounded t filled = (omega (arith, length-table_rows t filled), omega arith)
