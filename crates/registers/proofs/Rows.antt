@@ -8,7 +8,7 @@ use Rattle.registers.specs.declared.row.Row.{Row}
 use Rattle.registers.specs.declared.fault.StoreFault.TheVariants.{Full, NotOpen}
 use Rattle.registers.specs.Stores.{put_row, put_answer, add_row, add_answer, with_figures}
 use Rattle.registers.specs.Bounds.{length-table_rows}
-use Rattle.registers.specs.Tables.{table_room, table_held, table_rows}
+use Rattle.registers.specs.Tables.{table_room, table_rows}
 
 pub length-put_row : (rs : List Row) (i : ℕ) (f : Figures) → length (put_row rs i f) ≡ length rs
 length-put_row [] i f = refl
@@ -33,15 +33,6 @@ add_accepted rs room r h = let e = lt-ltb (length rs) room h in (rw e, rw e)
 pub add_refused : (rs : List Row) (room : ℕ) (r : Row) → room ≤ length rs → (Err Full ≡ add_answer rs room) × (rs ≡ add_row rs room r)
 add_refused rs room r h = let e = le-ltb (length rs) room h in (rw e, rw e)
 
--- the rows of a table
-pub table_row : (t : List Row) (filled i : ℕ) (d : Row) → i < table_held t filled → Some (get_or t i d) ≡ slice_get (table_rows t filled) i
-table_row t filled i d h =
-    let l : i < length (table_rows t filled) = omega (arith, length-table_rows t filled) in
-    sym (slice_get-get_or (table_rows t filled) i d l ∙ ap Some (get_or-take (table_held t filled) t i d h))
-
-pub table_none : (t : List Row) (filled i : ℕ) → table_held t filled ≤ i → None ≡ slice_get (table_rows t filled) i
-table_none t filled i h = sym (slice_get_past (table_rows t filled) i (omega (arith, length-table_rows t filled)))
-
 -- new figures at a place before the n-th row
 put_front : (t : List Row) (n i : ℕ) (d : Row) (f : Figures) → i < n → n ≤ length t → take n (set t i (with_figures (get_or t i d) f)) ≡ put_row (take n t) i f
 put_front [] n i d f h l = absurd (omega arith)
@@ -53,14 +44,11 @@ put_front (r ∷ t) (suc n) (suc i) d f h l = ap (λ (x : List Row). r ∷ x) (p
 pub table_room_lem : (t : List Row) (i : ℕ) (r : Row) → table_room (set t i r) ≡ table_room t
 table_room_lem t i r = simp length-set
 
-pub table_put : (t : List Row) (filled i : ℕ) (d : Row) (f : Figures) → i < table_held t filled → table_rows (set t i (with_figures (get_or t i d) f)) filled ≡ put_row (table_rows t filled) i f
-table_put t filled i d f h =
-    ap (λ (n : ℕ). take (min filled n) (set t i (with_figures (get_or t i d) f))) (table_room_lem t i (with_figures (get_or t i d) f))
-    ∙ put_front t (table_held t filled) i d f h (omega arith)
+pub table_put : (t : List Row) (filled i : ℕ) (d : Row) (f : Figures) → i < filled → filled ≤ table_room t → table_rows (set t i (with_figures (get_or t i d) f)) filled ≡ put_row (table_rows t filled) i f
+table_put t filled i d f h l = put_front t filled i d f h (omega arith)
 
-pub table_add : (t : List Row) (filled held : ℕ) (r : Row) → held ≡ table_held t filled → held < table_room t → table_rows (set t held r) (held + 1) ≡ table_rows t filled ++ r ∷ []
-table_add t filled held r e h =
-    let n : table_held (set t held r) (held + 1) ≡ held + 1 = simp length-set (omega arith) in
-    ap (λ (k : ℕ). take k (set t held r)) n
-    ∙ take_more_set t held r (omega arith)
-    ∙ ap (λ (k : ℕ). take k t ++ r ∷ []) e
+-- a row past those that are taken
+pub table_added : (t : List Row) (filled : ℕ) (r : Row) → filled < table_room t → (Ok tt ≡ add_answer (table_rows t filled) (table_room t)) × (table_rows (set t filled r) (filled + 1) ≡ add_row (table_rows t filled) (table_room t) r)
+table_added t filled r h =
+    let a = add_accepted (table_rows t filled) (table_room t) r (omega (arith, length-table_rows t filled (omega arith))) in
+    (a.0, take_more_set t filled r (omega arith) ∙ a.1)

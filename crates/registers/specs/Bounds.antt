@@ -2,7 +2,7 @@
 use Rattle.std.proofs.Common.{◌≡◌, ℕ, zero, suc, ◌+◌, ◌≤◌, min, Bool, true, false, cond, List, length, refl, ap, ◌∙◌, arith, length-take}
 use Rattle.registers.specs.declared.row.Row.{Row}
 use Rattle.registers.specs.Images.{marked, room_of, count_of, rows_from, image_rows}
-use Rattle.registers.specs.Tables.{table_room, table_held, table_rows}
+use Rattle.registers.specs.Tables.{table_room, table_rows}
 
 pub length-rows_from : (n at : ℕ) (s : List ℕ) → length (rows_from n at s) ≡ n
 length-rows_from zero at s = refl
@@ -21,8 +21,8 @@ room_small s = few (marked s) _
 pub image_bounded : (s : List ℕ) → (length (image_rows s) ≤ room_of s) × (room_of s ≤ 4096)
 image_bounded s = (omega (arith, length-image_rows s), room_small s)
 
-pub length-table_rows : (t : List Row) (filled : ℕ) → length (table_rows t filled) ≡ table_held t filled
-length-table_rows t filled = length-take (table_held t filled) t ∙ omega arith
+pub length-table_rows : (t : List Row) (filled : ℕ) → filled ≤ table_room t → length (table_rows t filled) ≡ filled
+length-table_rows t filled h = length-take filled t ∙ omega arith
 
-pub table_bounded : (t : List Row) (filled : ℕ) → (length (table_rows t filled) ≤ table_room t) × (table_room t ≤ 4096)
-table_bounded t filled = (omega (arith, length-table_rows t filled), omega arith)
+pub table_bounded : (t : List Row) (filled : ℕ) → filled ≤ table_room t → (length (table_rows t filled) ≤ table_room t) × (table_room t ≤ 4096)
+table_bounded t filled h = (omega (arith, length-table_rows t filled h), omega arith)

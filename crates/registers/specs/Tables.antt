@@ -6,9 +6,6 @@ use Rattle.registers.specs.declared.row.Row.{Row}
 abbrev pub table_room : List Row → ℕ
 table_room t = min (length t) 4096
 
--- how many of them are taken, and the rows
-abbrev pub table_held : List Row → ℕ → ℕ
-table_held t filled = min filled (table_room t)
-
+-- the rows, of which so many are taken
 abbrev pub table_rows : List Row → ℕ → List Row
-table_rows t filled = take (table_held t filled) t
+table_rows t filled = take filled t

@@ -1,10 +1,10 @@
 //! The row store: rows in a table that its owner lends.
 
-ghost use Rattle.std.specs.Prelude.{◌≡◌, ◌<◌, min, [], length};
+ghost use Rattle.std.specs.Prelude.{◌≡◌, ◌<◌, ◌≤◌, min, [], length};
 ghost use Rattle.std.specs.List.{slice_get};
 ghost use Rattle.registers.specs.Stores.{place_for};
 ghost use Rattle.registers.specs.Bounds.{table_bounded};
-ghost use Rattle.registers.specs.Tables.{table_room, table_held, table_rows};
+ghost use Rattle.registers.specs.Tables.{table_room, table_rows};
 
 use crate::fault::StoreFault;
 use crate::row::{Figures, Key, Row};
@@ -16,6 +16,7 @@ use crate::store::Store;
 pub struct RowStore<'a> {
     table: &'a mut [Row],
     filled: usize,
+    ghost inside: { filled ≤ table_room table.now },
 }
 
 impl<'a> RowStore<'a> {
@@ -33,16 +34,10 @@ impl<'a> RowStore<'a> {
         self.table.len().min(4096)
     }
 
-    fn held(&self) -> usize
-        ensures { result ≡ table_held self.now.table.now self.now.filled }
-    {
-        self.filled.min(self.size())
-    }
-
     fn at(&self, place: usize) -> Option<Row>
         ensures { result ≡ slice_get (table_rows self.now.table.now self.now.filled) place }
     {
-        if place >= self.held() {
+        if place >= self.filled {
             return None;
         }
         Some(self.table[place])
@@ -51,8 +46,7 @@ impl<'a> RowStore<'a> {
     fn place_of(&self, key: Key) -> Option<usize>
         ensures { result ≡ place_for key (table_rows self.now.table.now self.now.filled) }
     {
-        let held = self.held();
-        seek::find(&self.table[0..held], key)
+        seek::find(&self.table[..self.filled], key)
     }
 }
 
@@ -61,10 +55,10 @@ impl Store for RowStore<'_> {
 
     ghost capacity = { λ s. table_room s.table.now };
 
-    ghost bounded = { λ s. table_bounded s.table.now s.filled };
+    ghost bounded = { λ s. table_bounded s.table.now s.filled s.inside };
 
     fn count(&mut self) -> usize {
-        self.held()
+        self.filled
     }
 
     fn room(&mut self) -> usize {
@@ -80,7 +74,7 @@ impl Store for RowStore<'_> {
     }
 
     fn put(&mut self, place: usize, figures: Figures) -> Result<(), StoreFault> {
-        if place >= self.held() {
+        if place >= self.filled {
             return Err(StoreFault::NotOpen);
         }
         self.table[place].figures = figures;
@@ -88,12 +82,11 @@ impl Store for RowStore<'_> {
     }
 
     fn add(&mut self, row: Row) -> Result<(), StoreFault> {
-        let held = self.held();
-        if held >= self.size() {
+        if self.filled >= self.size() {
             return Err(StoreFault::Full);
         }
-        self.table[held] = row;
-        self.filled = held + 1;
+        self.table[self.filled] = row;
+        self.filled += 1;
         Ok(())
     }
 }
