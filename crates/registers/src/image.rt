@@ -215,8 +215,6 @@ impl Store for ImageStore<'_> {
 
     fn count(&mut self) -> usize
         ensures answer { result ≡ length (image_rows self.old.bytes.now) }
-        ensures kept { image_rows self.new.bytes.now ≡ image_rows self.old.bytes.now }
-        ensures roomy { room_of self.new.bytes.now ≡ room_of self.old.bytes.now }
         ensures bytes { self.new.bytes.now ≡ self.old.bytes.now }
         ensures lent { self.new.bytes.ghost_name ≡ self.old.bytes.ghost_name }
     {
@@ -225,8 +223,6 @@ impl Store for ImageStore<'_> {
 
     fn room(&mut self) -> usize
         ensures answer { result ≡ room_of self.old.bytes.now }
-        ensures kept { image_rows self.new.bytes.now ≡ image_rows self.old.bytes.now }
-        ensures roomy { room_of self.new.bytes.now ≡ room_of self.old.bytes.now }
         ensures bytes { self.new.bytes.now ≡ self.old.bytes.now }
         ensures lent { self.new.bytes.ghost_name ≡ self.old.bytes.ghost_name }
     {
@@ -235,8 +231,6 @@ impl Store for ImageStore<'_> {
 
     fn row(&mut self, place: usize) -> Option<Row>
         ensures answer { result ≡ slice_get (image_rows self.old.bytes.now) place }
-        ensures kept { image_rows self.new.bytes.now ≡ image_rows self.old.bytes.now }
-        ensures roomy { room_of self.new.bytes.now ≡ room_of self.old.bytes.now }
         ensures bytes { self.new.bytes.now ≡ self.old.bytes.now }
         ensures lent { self.new.bytes.ghost_name ≡ self.old.bytes.ghost_name }
     {
@@ -245,8 +239,6 @@ impl Store for ImageStore<'_> {
 
     fn find(&mut self, key: Key) -> Option<usize>
         ensures answer { result ≡ place_for key (image_rows self.old.bytes.now) }
-        ensures kept { image_rows self.new.bytes.now ≡ image_rows self.old.bytes.now }
-        ensures roomy { room_of self.new.bytes.now ≡ room_of self.old.bytes.now }
         ensures bytes { self.new.bytes.now ≡ self.old.bytes.now }
         ensures lent { self.new.bytes.ghost_name ≡ self.old.bytes.ghost_name }
     {

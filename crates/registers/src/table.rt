@@ -37,10 +37,7 @@ impl<'a> RowStore<'a> {
     fn at(&self, place: usize) -> Option<Row>
         ensures { result ≡ slice_get (table_rows self.now.table.now self.now.filled) place }
     {
-        if place >= self.filled {
-            return None;
-        }
-        Some(self.table[place])
+        self.table[..self.filled].get(place).copied()
     }
 
     fn place_of(&self, key: Key) -> Option<usize>
