@@ -14,7 +14,7 @@ use Rattle.registers.specs.declared.fault.StoreFault.{StoreFault}
 use Rattle.registers.specs.declared.fault.StoreFault.TheVariants.{Full, NotOpen}
 use Rattle.registers.specs.Stores.{put_row, put_answer, add_row, add_answer, with_figures}
 use Rattle.registers.proofs.Rows.{put_accepted, put_refused, put_row_past, add_accepted, add_refused}
-use Rattle.registers.specs.Bounds.{length-rows_from, length-image_rows, room_small}
+use Rattle.registers.specs.Bounds.{length-image_rows, room_small}
 use Rattle.registers.specs.Images.{marked, room_of, count_of, key_at, figures_at, row_at, rows_from, image_rows, key_bytes, figure_bytes, row_bytes, row_place, put_bytes, add_bytes}
 
 -- keys, figures and rows are their parts

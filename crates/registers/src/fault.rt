@@ -10,3 +10,7 @@ pub enum StoreFault {
     /// 25: figures that were read are out of range.
     OutOfRange = 25,
 }
+
+/// Bytes are too short for the header of an image.
+#[derive(Clone, Copy, PartialEq, Eq, Debug)]
+pub struct TooShort;

@@ -1,13 +1,13 @@
 //! The image store: rows in bytes that its owner lends.
 
-ghost use Rattle.std.specs.Prelude.{◌≡◌, ◌+◌, ◌-◌, ◌*◌, ◌/◌, ◌<◌, ◌≤◌, min, true, [], length, Some, nat_le};
+ghost use Rattle.std.specs.Prelude.{◌≡◌, ◌+◌, ◌-◌, ◌*◌, ◌/◌, ◌<◌, ◌≤◌, min, [], length, is_ok, Some, OnOk, nat_le};
 ghost use Rattle.std.specs.List.{slice_get};
 ghost use Rattle.byte_fields.specs.Fields.{spliced};
 ghost use Rattle.registers.specs.Stores.{place_for, put_row, put_answer, add_row, add_answer};
 ghost use Rattle.registers.specs.Bounds.{image_bounded};
 ghost use Rattle.registers.specs.Images.{key_at, figures_at, row_at, marked, room_of, count_of, image_rows, key_bytes, figure_bytes, row_bytes, put_bytes, add_bytes, formatted};
 
-use crate::fault::StoreFault;
+use crate::fault::{StoreFault, TooShort};
 use crate::row::{Figures, Key, Row};
 use crate::store::Store;
 use byte_fields::{read, write};
@@ -139,19 +139,19 @@ fn write_row(bytes: &mut [u8], at: usize, row: Row)
     write_figures(bytes, at + 7, row.figures);
 }
 
-/// Writes the header of an empty store into `bytes`; answers whether there are the 7 bytes for it.
-/// Shorter bytes stay as they stood, and so does every byte past the header.
-pub fn format(bytes: &mut [u8]) -> bool
-    ensures answer { result ≡ nat_le 7 (length bytes.old) }
+/// Writes the header of an empty store into `bytes`; every byte past the header stays as it stood.
+/// Refuses bytes too short for the 7 of it; they are then all as they stood.
+pub fn format(bytes: &mut [u8]) -> Result<(), TooShort>
+    ensures answer { is_ok result ≡ nat_le 7 (length bytes.old) }
     ensures after { bytes.new ≡ formatted bytes.old }
-    ensures empty { result ≡ true → image_rows bytes.new ≡ [] }
-    ensures room { result ≡ true → room_of bytes.new ≡ min ((length bytes.old - 7) / 31) 4096 }
+    ensures empty { OnOk result (image_rows bytes.new ≡ []) }
+    ensures room { OnOk result (room_of bytes.new ≡ min ((length bytes.old - 7) / 31) 4096) }
 {
     if bytes.len() < HEADER {
-        return false;
+        return Err(TooShort);
     }
-    bytes[0..7].copy_from_slice(b"LRI\x00\x01\x00\x00");
-    true
+    bytes[..HEADER].copy_from_slice(b"LRI\x00\x01\x00\x00");
+    Ok(())
 }
 
 fn put_in(bytes: &mut [u8], place: usize, figures: Figures) -> Result<(), StoreFault>

@@ -1,8 +1,19 @@
 //! What a register is: its key and its three figures.
 
-/// A register's key as stored numbers. The kind is 1 for an account's cash, 2 for its holding of a
-/// security and 3 for a participant's limit; the code names the account or the participant, and the
-/// security is 0 in kinds 1 and 3.
+/// What a register is. The number of each kind is the one that is stored.
+#[derive(Clone, Copy, PartialEq, Eq, Debug)]
+pub enum Kind {
+    /// 1: an account's cash.
+    Cash = 1,
+    /// 2: an account's holding of a security.
+    Holding = 2,
+    /// 3: a participant's limit.
+    Participant = 3,
+}
+
+/// A register's key as stored numbers. The kind is the number of a `Kind`, or any other that the bytes
+/// of an image spell; the code names the account or the participant, and the security is 0 for cash and
+/// for a participant's limit.
 #[derive(Clone, Copy, PartialEq, Eq, Debug)]
 pub struct Key {
     pub kind: u8,
@@ -10,7 +21,7 @@ pub struct Key {
     pub security: u16,
 }
 
-/// A register's figures. The third is the delivery figure in kinds 1 and 2, the collateral in kind 3.
+/// A register's figures. The third is the delivery figure in registers of cash and of holdings, the collateral in a participant's.
 #[derive(Clone, Copy, PartialEq, Eq, Debug)]
 pub struct Figures {
     pub limit: i64,

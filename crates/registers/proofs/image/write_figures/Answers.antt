@@ -1,4 +1,4 @@
-use Rattle.std.proofs.Common.{◌≡◌, ℕ, ◌+◌, List, ◌++◌, ℤ, ap, ◌∙◌, arith, w64, SFits, of_z, rules}
+use Rattle.std.proofs.Common.{◌≡◌, ℕ, ◌+◌, List, ◌++◌, ℤ, ap, ◌∙◌, arith, w64, SFits, rules}
 use Rattle.std.proofs.lemmas.Int.{to_z-of_z}
 use Rattle.byte_fields.specs.Fields.{signed_bytes_of, spliced, written_at}
 use Rattle.byte_fields.proofs.Widths.{written_within, written_behind}
