@@ -27,44 +27,30 @@ mod tests {
         }
     }
 
-    fn is_full(answer: Result<(), StoreFault>) -> bool {
-        match answer {
-            Err(fault) => fault.number() == 2,
-            Ok(()) => false,
+    fn row(kind: u8, code: u32, security: u16, figures: Figures) -> Row {
+        Row {
+            key: key(kind, code, security),
+            figures,
         }
     }
 
-    fn is_not_open(answer: Result<(), StoreFault>) -> bool {
-        match answer {
-            Err(fault) => fault.number() == 6,
-            Ok(()) => false,
-        }
+    /// A store's answer, with a fault as its refusal number.
+    fn numbered(answer: Result<(), StoreFault>) -> Result<(), u8> {
+        answer.map_err(|fault| fault.number())
     }
 
-    fn bears(row: Option<Row>, figures: Figures) -> bool {
-        match row {
-            Some(row) => {
-                let Figures {
-                    limit,
-                    blocked,
-                    third,
-                } = row.figures;
-                limit == figures.limit && blocked == figures.blocked && third == figures.third
-            }
-            None => false,
-        }
+    fn figures_at<S: Store>(store: &mut S, place: usize) -> Option<Figures> {
+        store.row(place).map(|row| row.figures)
     }
 
-    fn cost(count: u32, value: u32) -> Option<u64> {
-        let quantity = Quantity::new(count)?;
-        let price = Price::new(value)?;
-        Some(money(quantity, price).units)
+    fn cost(quantity: u32, price: u32) -> Option<u64> {
+        Some(money(Quantity::new(quantity)?, Price::new(price)?).units)
     }
 
     #[test]
     fn figures_at_the_ends_of_64_bits(rt: HostRuntime) {
         let mut bytes = [0xFF; 38];
-        assert!(rt; image::format(&mut bytes));
+        assert_eq!(rt; image::format(&mut bytes), Ok(()));
         let mut store = ImageStore::new(&mut bytes);
         let low = Figures {
             limit: i64::MIN,
@@ -76,17 +62,10 @@ mod tests {
             blocked: i64::MIN,
             third: 1,
         };
-        assert!(rt;
-            store
-                .add(Row {
-                    key: key(255, u32::MAX, u16::MAX),
-                    figures: low,
-                })
-                .is_ok()
-        );
-        assert!(rt; bears(store.row(0), low));
-        assert!(rt; store.put(0, high).is_ok());
-        assert!(rt; bears(store.row(0), high));
+        assert_eq!(rt; store.add(row(255, u32::MAX, u16::MAX, low)), Ok(()));
+        assert_eq!(rt; figures_at(&mut store, 0), Some(low));
+        assert_eq!(rt; store.put(0, high), Ok(()));
+        assert_eq!(rt; figures_at(&mut store, 0), Some(high));
         assert_eq!(rt; store.find(key(255, u32::MAX, u16::MAX)), Some(0));
         assert!(rt; !low.in_range());
         assert!(rt; !high.in_range());
@@ -151,59 +130,34 @@ mod tests {
         let mut store = RowStore::new(&mut table);
         assert_eq!(rt; store.room(), 0);
         assert_eq!(rt; store.count(), 0);
-        assert!(rt;
-            is_full(store.add(Row {
-                key: key(1, 701, 0),
-                figures: ZERO,
-            }))
-        );
-        assert!(rt; is_not_open(store.put(0, ZERO)));
+        assert_eq!(rt; numbered(store.add(row(1, 701, 0, ZERO))), Err(2));
+        assert_eq!(rt; numbered(store.put(0, ZERO)), Err(6));
         assert_eq!(rt; store.find(key(1, 701, 0)), None);
     }
 
     #[test]
     fn an_image_of_room_one(rt: HostRuntime) {
         let mut bytes = [0; 68];
-        assert!(rt; image::format(&mut bytes));
+        assert_eq!(rt; image::format(&mut bytes), Ok(()));
         let mut store = ImageStore::new(&mut bytes);
         assert_eq!(rt; store.room(), 1);
-        assert!(rt;
-            store
-                .add(Row {
-                    key: key(2, 701, 5),
-                    figures: ZERO,
-                })
-                .is_ok()
-        );
-        assert!(rt;
-            is_full(store.add(Row {
-                key: key(2, 702, 5),
-                figures: ZERO,
-            }))
-        );
+        assert_eq!(rt; store.add(row(2, 701, 5, ZERO)), Ok(()));
+        assert_eq!(rt; numbered(store.add(row(2, 702, 5, ZERO))), Err(2));
         assert_eq!(rt; store.count(), 1);
     }
 
     #[test]
     fn an_image_of_header_alone(rt: HostRuntime) {
         let mut bytes = [0; 7];
-        assert!(rt; image::format(&mut bytes));
+        assert_eq!(rt; image::format(&mut bytes), Ok(()));
         let mut store = ImageStore::new(&mut bytes);
         assert_eq!(rt; store.room(), 0);
-        assert!(rt;
-            is_full(store.add(Row {
-                key: key(1, 701, 0),
-                figures: ZERO,
-            }))
-        );
+        assert_eq!(rt; numbered(store.add(row(1, 701, 0, ZERO))), Err(2));
     }
 
     #[test]
     fn a_key_that_appears_twice(rt: HostRuntime) {
-        let mut table = [Row {
-            key: key(0, 0, 0),
-            figures: ZERO,
-        }; 4];
+        let mut table = [row(0, 0, 0, ZERO); 4];
         let mut store = RowStore::new(&mut table);
         let first = Figures {
             limit: 1,
@@ -215,66 +169,39 @@ mod tests {
             blocked: 0,
             third: 0,
         };
-        assert!(rt;
-            store
-                .add(Row {
-                    key: key(1, 700, 0),
-                    figures: ZERO,
-                })
-                .is_ok()
-        );
-        assert!(rt;
-            store
-                .add(Row {
-                    key: key(1, 701, 0),
-                    figures: first,
-                })
-                .is_ok()
-        );
-        assert!(rt;
-            store
-                .add(Row {
-                    key: key(1, 701, 0),
-                    figures: second,
-                })
-                .is_ok()
-        );
+        assert_eq!(rt; store.add(row(1, 700, 0, ZERO)), Ok(()));
+        assert_eq!(rt; store.add(row(1, 701, 0, first)), Ok(()));
+        assert_eq!(rt; store.add(row(1, 701, 0, second)), Ok(()));
         assert_eq!(rt; store.find(key(1, 701, 0)), Some(1));
-        assert!(rt; store.put(1, ZERO).is_ok());
-        assert!(rt; bears(store.row(1), ZERO));
-        assert!(rt; bears(store.row(2), second));
+        assert_eq!(rt; store.put(1, ZERO), Ok(()));
+        assert_eq!(rt; figures_at(&mut store, 1), Some(ZERO));
+        assert_eq!(rt; figures_at(&mut store, 2), Some(second));
     }
 
     #[test]
     fn what_a_table_held_before_means_nothing(rt: HostRuntime) {
-        let mut table = [Row {
-            key: key(1, 701, 0),
-            figures: ZERO,
-        }; 2];
+        let mut table = [row(1, 701, 0, ZERO); 2];
         let mut store = RowStore::new(&mut table);
         assert_eq!(rt; store.find(key(1, 701, 0)), None);
-        assert!(rt; store.row(0).is_none());
+        assert_eq!(rt; store.row(0), None);
     }
 
     #[test]
     fn rooms_of_4096_and_above(rt: HostRuntime) -> Result<(), Fail> {
         let heap = rt.alloc();
-        let mut table = vec![in heap; Row {
-            key: key(0, 0, 0),
-            figures: ZERO
-        }; 4097]?;
+        let mut table = vec![in heap; row(0, 0, 0, ZERO); 4097]?;
         let mut rows = RowStore::new(&mut table);
         assert_eq!(rt; rows.room(), 4096);
         let mut bytes = vec![in heap; 0u8; 126_983]?;
-        assert!(rt; image::format(&mut bytes));
+        assert_eq!(rt; image::format(&mut bytes), Ok(()));
         let mut whole = ImageStore::new(&mut bytes);
         assert_eq!(rt; whole.room(), 4096);
         let mut short = vec![in heap; 0u8; 126_982]?;
-        assert!(rt; image::format(&mut short));
+        assert_eq!(rt; image::format(&mut short), Ok(()));
         let mut less = ImageStore::new(&mut short);
         assert_eq!(rt; less.room(), 4095);
         let mut long = vec![in heap; 0u8; 200_000]?;
-        assert!(rt; image::format(&mut long));
+        assert_eq!(rt; image::format(&mut long), Ok(()));
         let mut more = ImageStore::new(&mut long);
         assert_eq!(rt; more.room(), 4096);
         Ok(())
@@ -284,48 +211,28 @@ mod tests {
     fn a_count_of_65535(rt: HostRuntime) -> Result<(), Fail> {
         let heap = rt.alloc();
         let mut bytes = vec![in heap; 0u8; 126_983]?;
-        assert!(rt; image::format(&mut bytes));
+        assert_eq!(rt; image::format(&mut bytes), Ok(()));
         assert!(rt; bytes.len() > 6);
         bytes[5] = 0xFF;
         bytes[6] = 0xFF;
         let mut store = ImageStore::new(&mut bytes);
         assert_eq!(rt; store.count(), 4096);
-        assert!(rt;
-            is_full(store.add(Row {
-                key: key(1, 701, 0),
-                figures: ZERO,
-            }))
-        );
-        assert!(rt; store.put(4095, ZERO).is_ok());
-        assert!(rt; is_not_open(store.put(4096, ZERO)));
+        assert_eq!(rt; numbered(store.add(row(1, 701, 0, ZERO))), Err(2));
+        assert_eq!(rt; store.put(4095, ZERO), Ok(()));
+        assert_eq!(rt; numbered(store.put(4096, ZERO)), Err(6));
         Ok(())
     }
 
     #[test]
     fn a_row_store_filled_to_4096(rt: HostRuntime) -> Result<(), Fail> {
         let heap = rt.alloc();
-        let mut table = vec![in heap; Row {
-            key: key(0, 0, 0),
-            figures: ZERO
-        }; 4096]?;
+        let mut table = vec![in heap; row(0, 0, 0, ZERO); 4096]?;
         let mut store = RowStore::new(&mut table);
         for code in 0..4096 {
-            assert!(rt;
-                store
-                    .add(Row {
-                        key: key(1, code, 0),
-                        figures: ZERO,
-                    })
-                    .is_ok()
-            );
+            assert_eq!(rt; store.add(row(1, code, 0, ZERO)), Ok(()));
         }
         assert_eq!(rt; store.count(), 4096);
-        assert!(rt;
-            is_full(store.add(Row {
-                key: key(1, 9999, 0),
-                figures: ZERO,
-            }))
-        );
+        assert_eq!(rt; numbered(store.add(row(1, 9999, 0, ZERO))), Err(2));
         assert_eq!(rt; store.find(key(1, 4095, 0)), Some(4095));
         Ok(())
     }
@@ -335,7 +242,7 @@ mod tests {
         assert_eq!(rt; cost(1, 1), Some(0));
         assert_eq!(rt; cost(1, 100_000_000), Some(1_000_000));
         assert_eq!(rt; cost(1_000_001, 1), None);
-        assert!(rt; Price::new(0).is_none());
-        assert!(rt; Price::new(100_000_001).is_none());
+        assert_eq!(rt; Price::new(0), None);
+        assert_eq!(rt; Price::new(100_000_001), None);
     }
 }
