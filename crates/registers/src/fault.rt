@@ -1,7 +1,7 @@
 //! What a store refuses.
 
 /// A store's fault. Each has its refusal number.
-#[derive(Clone, Copy)]
+#[derive(Clone, Copy, PartialEq, Eq, Debug)]
 pub enum StoreFault {
     /// 2: the count of rows equals the room.
     Full,
