@@ -23,10 +23,10 @@ module _ (os : List (Option Order)) (i q : ℕ) (d x : Option Order) (o : Order)
   slot_at : Some (live_of o) ≡ get_or (map slot_of os) i None
   slot_at = sym (get_or-map slot_of os i d None h ∙ ap slot_of at)
 
-  pub slots_freed : o.rest.count ≤ q → map slot_of (set (set os i x) i None) ≡ set (map slot_of os) i (lowered (get_or (map slot_of os) i None) q)
+  pub slots_freed : o.rest.count ≤ q → set (map slot_of (set os i x)) i None ≡ set (map slot_of os) i (lowered (get_or (map slot_of os) i None) q)
   slots_freed less =
       let is : None ≡ lowered (Some (live_of o)) q = grind (arith, nat_tests) in
-      rw (set-set, map-set) (ap (set (map slot_of os) i) (is ∙ ap (λ (s : Option Live). lowered s q) slot_at))
+      rw (map-set, set-set) (ap (set (map slot_of os) i) (is ∙ ap (λ (s : Option Live). lowered s q) slot_at))
 
   pub slots_less : q < o.rest.count → slot_of x ≡ Some (resting (live_of o) (o.rest.count - q)) → map slot_of (set os i x) ≡ set (map slot_of os) i (lowered (get_or (map slot_of os) i None) q)
   slots_less more e =

@@ -83,7 +83,7 @@ impl Book {
         }
         if let Some(order) = &mut self.orders[place] {
             if order.rest.count <= traded.count {
-                self.orders[place] = None;
+                self.free(place);
             } else {
                 order.rest.count -= traded.count;
             }
