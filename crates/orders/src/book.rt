@@ -73,7 +73,7 @@ impl Book {
 
     /// Lowers the rest of the order at a place by what was traded, and frees the place where nothing
     /// is left. A place that is free, or past the table's end, changes nothing.
-    #[tactic(auto, using(crate::proofs::Tables::slots_freed, crate::proofs::Tables::slots_less, crate::proofs::Tables::written))]
+    #[tactic(auto, using(crate::proofs::Tables::written))]
     pub fn lower(&mut self, place: usize, traded: Quantity)
         ensures orders { slots_of self.new ≡ slice_set (slots_of self.old) place (lowered (slice_index_or (slots_of self.old) place None) traded.count) }
         ensures last { self.new.last ≡ self.old.last }
