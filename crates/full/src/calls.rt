@@ -1,7 +1,9 @@
 //! The calls of Level One, but for the trade.
 
-ghost use Rattle.std.specs.Prelude.{◌≡◌, ◌≤◌, [], replicate, None, OnSome};
+ghost use Rattle.std.specs.Prelude.{◌≡◌, ◌≤◌, [], replicate, None, OnOk};
+ghost use Rattle.orders.specs.declared.refusal.Refusal.TheVariants.{BadValue};
 ghost use Rattle.orders.specs.State.{slots_of, list_of};
+ghost use Rattle.orders.specs.Steps.{or_refuse};
 ghost use Rattle.full.specs.Plans.{state_of, Done};
 ghost use Rattle.full.specs.Calls.{admit_of, opening_key, open_of, asset_key, credit_of, announce_of, withdraw_of};
 
@@ -18,20 +20,20 @@ use registers::ranges::Ratio;
 use registers::row::{Figures, Key, Row};
 use registers::store::Store;
 
-fn opening_key(o: Opening) -> Option<Key>
-    ensures value { result ≡ opening_key o }
-    ensures bound { OnSome result (o.limit ≤ 100000000000000) }
+fn opening_key(o: Opening) -> Result<Key, Refusal>
+    ensures value { result ≡ or_refuse (opening_key o) BadValue }
+    ensures bound { OnOk result (o.limit ≤ 100000000000000) }
 {
     if !code_ok(o.code) || !limit_ok(o.limit) || o.margin != 0 {
-        return None;
+        return Err(Refusal::BadValue);
     }
     if o.kind == 1 && o.security == 0 {
-        return Some(cash_key(o.code));
+        return Ok(cash_key(o.code));
     }
     if o.kind == 2 && security_ok(o.security) {
-        return Some(holding_key(o.code, o.security));
+        return Ok(holding_key(o.code, o.security));
     }
-    None
+    Err(Refusal::BadValue)
 }
 
 fn asset_key(code: u32, security: u16) -> Key
@@ -86,20 +88,15 @@ impl<S: Store> Engine<S> {
         if !security_ok(security) {
             return Err(Refusal::BadValue);
         }
-        let Some(ratio) = Ratio::new(u32::from(ratio)) else {
-            return Err(Refusal::BadValue);
-        };
+        let ratio = Ratio::new(u32::from(ratio)).ok_or(Refusal::BadValue)?;
         if self.securities.ratio(security).is_some() {
             return Err(Refusal::SecurityAdmitted);
         }
-        let count = self.securities.count();
-        if !self.securities.add(Security {
+        self.securities.add(Security {
             number: security,
             ratio,
-        }) {
-            return Err(Refusal::SecuritiesFull);
-        }
-        Ok(count as i64 + 1)
+        })?;
+        Ok(self.securities.count() as i64)
     }
 
     /// Opens a register of kind 1 or 2; answers the count of rows. Refuses values outside their
@@ -108,9 +105,7 @@ impl<S: Store> Engine<S> {
     pub fn open(&mut self, o: Opening) -> Result<i64, Refusal>
         ensures { Done (open_of (state_of S.Store.rows S.Store.capacity self.old) o) (state_of S.Store.rows S.Store.capacity self.old) (state_of S.Store.rows S.Store.capacity self.new) result }
     {
-        let Some(key) = opening_key(o) else {
-            return Err(Refusal::BadValue);
-        };
+        let key = opening_key(o)?;
         if key.kind != 1 && self.securities.ratio(key.security).is_none() {
             return Err(Refusal::NotAdmitted);
         }
@@ -136,9 +131,7 @@ impl<S: Store> Engine<S> {
         if !code_ok(code) || security != 0 && !security_ok(security) {
             return Err(Refusal::BadValue);
         }
-        let Some(amount) = amount_of(amount) else {
-            return Err(Refusal::BadValue);
-        };
+        let amount = amount_of(amount)?;
         let register = held(&mut self.store, asset_key(code, security))?;
         let credited = credit_on(register, amount)?;
         put_held(&mut self.store, register, credited.figures);

@@ -13,29 +13,19 @@ use registers::row::{Figures, Key};
 use registers::store::Store;
 
 /// The open register of a key. Refuses (6) where none is open; the store is as it stood.
+#[tactic(auto, unfolding(crate::specs::Blocks::held_at))]
 pub fn held<S: Store>(store: &mut S, key: Key) -> Result<Held, Refusal>
     ensures answer { result ≡ held_at (S.Store.rows store.old) key }
     ensures stands { IfOk result (λ h. FiguresAt (S.Store.rows store.old) h.place h.figures) }
     ensures kept { S.Store.rows store.new ≡ S.Store.rows store.old }
     ensures roomy { S.Store.capacity store.new ≡ S.Store.capacity store.old }
 {
-    let Some(place) = store.find(key) else {
-        return Err(Refusal::Store(StoreFault::NotOpen));
-    };
-    let Some(row) = store.row(place) else {
-        return Err(Refusal::Store(StoreFault::NotOpen));
-    };
+    let place = store.find(key).ok_or(StoreFault::NotOpen)?;
+    let row = store.row(place).ok_or(StoreFault::NotOpen)?;
     Ok(Held {
         place,
         figures: row.figures,
     })
-}
-
-fn same_figures(x: Figures, y: Figures) -> bool
-    ensures same { result ≡ true → x ≡ y }
-    ensures differ { x ≡ y → result ≡ true }
-{
-    x.limit == y.limit && x.blocked == y.blocked && x.third == y.third
 }
 
 /// Puts new figures at the place of a register as it was read, if they differ from those; a place
@@ -46,7 +36,7 @@ pub fn put_held<S: Store>(store: &mut S, held: Held, figures: Figures)
     ensures after { FiguresAt (S.Store.rows store.old) held.place held.figures → S.Store.rows store.new ≡ put_row (S.Store.rows store.old) held.place figures }
     ensures roomy { S.Store.capacity store.new ≡ S.Store.capacity store.old }
 {
-    if same_figures(held.figures, figures) {
+    if held.figures == figures {
         return;
     }
     let _ = store.put(held.place, figures);

@@ -12,6 +12,7 @@ use crate::ordering::put_moves;
 use crate::registers_of::held;
 use orders::blocks::{cash_key, holding_key};
 use orders::checks::pair;
+use orders::order::Mode;
 use orders::refusal::Refusal;
 use orders::terms::Deal;
 use registers::amounts::money;
@@ -129,7 +130,7 @@ impl<S: Store> Engine<S> {
         ensures { Done (trade_of (state_of S.Store.rows S.Store.capacity self.old) d) (state_of S.Store.rows S.Store.capacity self.old) (state_of S.Store.rows S.Store.capacity self.new) result }
     {
         let pair = pair(&self.book, self.trade, d)?;
-        if !pair.buy.mode.is_full() {
+        if pair.buy.mode != Mode::Full {
             return Err(Refusal::BadValue);
         }
         let four = four(

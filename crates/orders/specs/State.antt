@@ -1,5 +1,5 @@
 -- The engine's state, as the rules speak of it.
-use Rattle.std.specs.Prelude.{ℕ, ◌-◌, min, Bool, true, false, cond, List, map, take, Some, None, Option, ◌==◌, nat_eq, nat_le}
+use Rattle.std.specs.Prelude.{ℕ, ◌-◌, Bool, true, false, cond, List, map, Some, None, Option, ◌==◌, nat_eq, nat_le}
 use Rattle.std.specs.List.{slice_get}
 use Rattle.std.specs.Option.{option_map}
 use Rattle.seek.specs.Place.{place_of}
@@ -40,7 +40,7 @@ abbrev pub admitted_of : Security → Admitted
 admitted_of s = record { number = s.number; ratio = s.ratio.value }
 
 abbrev pub list_of : Securities → List Admitted
-list_of s = map admitted_of (take (min s.filled 64) s.table)
+list_of s = map admitted_of s.list.items
 
 -- whether a place of the book holds the order of a number, and whether it is free
 abbrev pub has_number : ℕ → Option Live → Bool

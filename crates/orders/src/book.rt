@@ -38,15 +38,8 @@ impl Book {
         }
     }
 
-    fn places(&self) -> usize
-        ensures value { result ≡ 256 }
-        ensures whole { result ≡ length self.now.orders }
-    {
-        let orders: &[Option<Order>] = &self.orders;
-        orders.len()
-    }
-
     /// The place of the live order of a number, or `None` where there is none.
+    #[tactic(auto, using(crate::proofs::Tables::place_of_map))]
     pub(crate) fn place_of(&self, number: u32) -> Option<usize>
         ensures place { result ≡ place_of_order number (slots_of self.now) }
         ensures within { IfSome result (λ i. i < 256) }
@@ -56,6 +49,7 @@ impl Book {
     }
 
     /// The first free place, or `None` where 256 orders are live.
+    #[tactic(auto, using(crate::proofs::Tables::place_of_map))]
     pub(crate) fn free_place(&self) -> Option<usize>
         ensures place { result ≡ free_place (slots_of self.now) }
         ensures within { IfSome result (λ i. i < 256) }
@@ -66,54 +60,44 @@ impl Book {
 
     /// Puts an order into a place, and notes its number as the last; past the table's end only the
     /// number is noted.
+    #[tactic(auto, using(crate::proofs::Tables::written))]
     pub fn add(&mut self, place: usize, order: Order)
         ensures orders { slots_of self.new ≡ slice_set (slots_of self.old) place (Some (live_of order)) }
         ensures last { self.new.last ≡ order.number }
     {
         self.last = order.number;
-        if place < self.places() {
+        if place < self.orders.len() {
             self.orders[place] = Some(order);
         }
     }
 
     /// Lowers the rest of the order at a place by what was traded, and frees the place where nothing
     /// is left. A place that is free, or past the table's end, changes nothing.
+    #[tactic(auto, using(crate::proofs::Tables::written))]
     pub fn lower(&mut self, place: usize, traded: Quantity)
         ensures orders { slots_of self.new ≡ slice_set (slots_of self.old) place (lowered (slice_index_or (slots_of self.old) place None) traded.count) }
         ensures last { self.new.last ≡ self.old.last }
     {
-        if place >= self.places() {
+        if place >= self.orders.len() {
             return;
         }
-        let slot = &mut self.orders[place];
-        if let Some(order) = *slot {
-            let left = order.less(traded);
-            *slot = left;
+        if let Some(order) = &mut self.orders[place] {
+            if order.rest.count <= traded.count {
+                self.free(place);
+            } else {
+                order.rest.count -= traded.count;
+            }
         }
     }
 
     /// Frees a place.
+    #[tactic(auto, using(crate::proofs::Tables::written))]
     pub fn free(&mut self, place: usize)
         ensures orders { slots_of self.new ≡ slice_set (slots_of self.old) place None }
         ensures last { self.new.last ≡ self.old.last }
     {
-        if place < self.places() {
+        if place < self.orders.len() {
             self.orders[place] = None;
         }
-    }
-}
-
-impl Order {
-    fn less(self, traded: Quantity) -> Option<Order>
-        ensures { slot_of result ≡ lowered (Some (live_of self)) traded.count }
-    {
-        if self.rest.count <= traded.count {
-            return None;
-        }
-        let count = self.rest.count - traded.count;
-        Some(Order {
-            rest: Quantity { count },
-            ..self
-        })
     }
 }

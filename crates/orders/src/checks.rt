@@ -3,34 +3,28 @@
 ghost use Rattle.std.specs.Prelude.{◌≡◌, IfOk, ◌≢◌};
 ghost use Rattle.orders.specs.State.{slots_of, list_of};
 ghost use Rattle.orders.specs.Steps.{ok_as};
-ghost use Rattle.orders.specs.Checks.{ready_of, found_of, matched_of, pair_of, is_buy, is_full, same_mode};
+ghost use Rattle.orders.specs.Checks.{ready_of, found_of, matched_of, pair_of};
 ghost use Rattle.orders.specs.Views.{ready_as, found_as, pair_as};
 
 use crate::found::{Found, Pair, Ready};
-use crate::order::{Book, Mode, Order, Side};
-use crate::ranges::{bargain, terms};
+use crate::order::{Book, Order, Side};
 use crate::refusal::Refusal;
 use crate::security::Securities;
-use crate::terms::{Announcement, Deal};
+use crate::terms::{Announcement, Bargain, Deal, Terms};
 
 /// The checks of an announcement up to the registers, for both modes. Refuses values outside their
 /// ranges (5), a number not above the last (8), a security that is not admitted (7) and a full
 /// book (9).
+#[tactic(auto, unfolding(crate::specs::Checks::ready_of))]
 pub fn ready(securities: &Securities, book: &Book, a: Announcement) -> Result<Ready, Refusal>
     ensures { ok_as ready_as result ≡ ready_of (list_of securities.now) (slots_of book.now) book.now.last a }
 {
-    let Some(terms) = terms(a) else {
-        return Err(Refusal::BadValue);
-    };
+    let terms = Terms::try_from(a)?;
     if a.number <= book.last {
         return Err(Refusal::OrderNumber);
     }
-    let Some(ratio) = securities.ratio(a.security) else {
-        return Err(Refusal::NotAdmitted);
-    };
-    let Some(place) = book.free_place() else {
-        return Err(Refusal::OrdersFull);
-    };
+    let ratio = securities.ratio(a.security).ok_or(Refusal::NotAdmitted)?;
+    let place = book.free_place().ok_or(Refusal::OrdersFull)?;
     let order = Order {
         number: a.number,
         side: a.side,
@@ -46,51 +40,13 @@ pub fn ready(securities: &Securities, book: &Book, a: Announcement) -> Result<Re
 
 impl Book {
     /// The live order of a number and its place. Refuses (11) where there is none.
+    #[tactic(auto, unfolding(crate::specs::Checks::found_of))]
     pub fn found(&self, number: u32) -> Result<Found, Refusal>
         ensures { ok_as found_as result ≡ found_of (slots_of self.now) number }
     {
-        let Some(place) = self.place_of(number) else {
-            return Err(Refusal::NoOrder);
-        };
-        let slot = &self.orders[place];
-        let Some(order) = *slot else {
-            return Err(Refusal::NoOrder);
-        };
+        let place = self.place_of(number).ok_or(Refusal::NoOrder)?;
+        let order = self.orders[place].ok_or(Refusal::NoOrder)?;
         Ok(Found { place, order })
-    }
-}
-
-impl Side {
-    fn is_buy(self) -> bool
-        ensures { result ≡ is_buy self }
-    {
-        match self {
-            Side::Buy => true,
-            Side::Sell => false,
-        }
-    }
-}
-
-impl Mode {
-    /// Whether the mode is full collateral.
-    pub fn is_full(self) -> bool
-        ensures { result ≡ is_full self }
-    {
-        match self {
-            Mode::Full => true,
-            Mode::Partial => false,
-        }
-    }
-
-    fn is_same(self, other: Mode) -> bool
-        ensures { result ≡ same_mode self other }
-    {
-        match (self, other) {
-            (Mode::Full, Mode::Full) => true,
-            (Mode::Partial, Mode::Partial) => true,
-            (Mode::Full, Mode::Partial) => false,
-            (Mode::Partial, Mode::Full) => false,
-        }
     }
 }
 
@@ -98,13 +54,12 @@ impl Mode {
 /// (5), a number not above the last (12), an order that is not live (11), a first order that is no buy
 /// or a second that is no sell (13), another security or mode (14), one account (15), a quantity above
 /// a rest (16), and a price above the buy price or below the sell price (17).
+#[tactic(auto, unfolding(crate::specs::Checks::pair_of))]
 pub fn pair(book: &Book, last: u32, d: Deal) -> Result<Pair, Refusal>
     ensures answer { ok_as pair_as result ≡ pair_of (slots_of book.now) last d }
     ensures apart { IfOk result (λ p. p.buy.account ≢ p.sell.account) }
 {
-    let Some(bargain) = bargain(d) else {
-        return Err(Refusal::BadValue);
-    };
+    let bargain = Bargain::try_from(d)?;
     if d.number <= last {
         return Err(Refusal::TradeNumber);
     }
@@ -121,14 +76,15 @@ pub fn pair(book: &Book, last: u32, d: Deal) -> Result<Pair, Refusal>
     matched(pair)
 }
 
+#[tactic(auto, unfolding(crate::specs::Checks::matched_of))]
 fn matched(p: Pair) -> Result<Pair, Refusal>
     ensures answer { ok_as pair_as result ≡ matched_of (pair_as p) }
     ensures apart { IfOk result (λ p. p.buy.account ≢ p.sell.account) }
 {
-    if !p.buy.side.is_buy() || p.sell.side.is_buy() {
+    if p.buy.side != Side::Buy || p.sell.side != Side::Sell {
         return Err(Refusal::WrongSide);
     }
-    if p.buy.security != p.sell.security || !p.buy.mode.is_same(p.sell.mode) {
+    if p.buy.security != p.sell.security || p.buy.mode != p.sell.mode {
         return Err(Refusal::Mismatch);
     }
     if p.buy.account == p.sell.account {

@@ -3,7 +3,7 @@
 use registers::ranges::{Price, Quantity, Ratio};
 
 /// Which way an order goes.
-#[derive(Clone, Copy)]
+#[derive(Clone, Copy, PartialEq, Eq, Debug)]
 pub enum Side {
     Buy,
     Sell,
@@ -11,7 +11,7 @@ pub enum Side {
 
 /// What covers an order: the account's own cash or securities in full, or a part of the
 /// participant's limit.
-#[derive(Clone, Copy)]
+#[derive(Clone, Copy, PartialEq, Eq, Debug)]
 pub enum Mode {
     Full,
     Partial,
@@ -39,9 +39,9 @@ pub struct Book {
 }
 
 /// An order's number, as a key of the book.
-#[derive(Clone, Copy)]
+#[derive(Clone, Copy, PartialEq, Eq, Debug)]
 pub struct OrderNumber(pub u32);
 
 /// The key that a free place of the book bears.
-#[derive(Clone, Copy)]
+#[derive(Clone, Copy, PartialEq, Eq, Debug)]
 pub struct Free;

@@ -7,7 +7,7 @@ use registers::fault::StoreFault;
 
 /// A refusal of the engine, of every level. Each has its number, and every refusal leaves the engine
 /// and its store as they stood.
-#[derive(Clone, Copy)]
+#[derive(Clone, Copy, PartialEq, Eq, Debug)]
 pub enum Refusal {
     /// 1: the register is open already.
     RegisterOpen,
@@ -60,7 +60,7 @@ pub enum Refusal {
 }
 
 /// The layer that brings a refusal about.
-#[derive(Clone, Copy)]
+#[derive(Clone, Copy, PartialEq, Eq, Debug)]
 pub enum Layer {
     /// S: the store.
     Store,

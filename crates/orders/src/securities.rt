@@ -1,10 +1,14 @@
 //! Looking up and admitting securities.
 
-ghost use Rattle.std.specs.Prelude.{◌≡◌, min, [], ◌∷◌, ◌++◌, length, if◌then◌else◌, ◌==◌, nat_lt};
+ghost use Rattle.std.specs.Prelude.{◌≡◌, ◌≤◌, [], ◌∷◌, ◌++◌, length, if◌then◌else◌, ◌==◌, nat_lt, Ok};
 ghost use Rattle.std.specs.Option.{option_map};
+ghost use Rattle.orders.specs.declared.refusal.Refusal.TheVariants.{SecuritiesFull};
 ghost use Rattle.orders.specs.State.{list_of, admitted_of, admitted_as};
+ghost use Rattle.orders.specs.Steps.{demand};
 
+use crate::refusal::Refusal;
 use crate::security::{Securities, Security, SecurityNumber};
+use arrayvec::ArrayVec;
 use registers::ranges::Ratio;
 use seek::Keyed;
 
@@ -21,51 +25,37 @@ impl Securities {
     pub fn new() -> Securities
         ensures { list_of result ≡ [] }
     {
-        let ratio = Ratio { value: 1 };
         Securities {
-            table: [Security { number: 0, ratio }; 64],
-            filled: 0,
+            list: ArrayVec::new(),
         }
-    }
-
-    fn room(&self) -> usize
-        ensures value { result ≡ 64 }
-        ensures whole { result ≡ length self.now.table }
-    {
-        let table: &[Security] = &self.table;
-        table.len()
     }
 
     /// How many securities are admitted.
     pub fn count(&self) -> usize
         ensures value { result ≡ length (list_of self.now) }
-        ensures held { result ≡ min self.now.filled 64 }
-        ensures whole { length self.now.table ≡ 64 }
+        ensures bound { result ≤ 64 }
     {
-        self.filled.min(self.room())
+        self.list.len()
     }
 
     /// The ratio of an admitted security, or `None` where it is not admitted.
+    #[tactic(auto, using(crate::proofs::Tables::found_in_list))]
     pub fn ratio(&self, number: u16) -> Option<Ratio>
         ensures { option_map (λ k. k.value) result ≡ admitted_as (list_of self.now) number }
     {
-        let count = self.count();
-        let place = seek::find(&self.table[0..count], SecurityNumber(number))?;
-        Some(self.table[place].ratio)
+        let place = seek::find(self.list.as_slice(), SecurityNumber(number))?;
+        Some(self.list[place].ratio)
     }
 
-    /// Admits a security; answers whether there was room for it, and leaves the table as it stood
-    /// where 64 are admitted.
-    pub fn add(&mut self, security: Security) -> bool
-        ensures answer { result ≡ nat_lt (length (list_of self.old)) 64 }
-        ensures after { list_of self.new ≡ (if result then list_of self.old ++ admitted_of security ∷ [] else list_of self.old) }
+    /// Admits a security. Refuses (4) where 64 are admitted, and the list is then as it stood.
+    pub fn add(&mut self, security: Security) -> Result<(), Refusal>
+        ensures answer { result ≡ demand (nat_lt (length (list_of self.old)) 64) SecuritiesFull (Ok tt) }
+        ensures after { list_of self.new ≡ (if nat_lt (length (list_of self.old)) 64 then list_of self.old ++ admitted_of security ∷ [] else list_of self.old) }
     {
-        let count = self.count();
-        if count >= 64 {
-            return false;
+        if self.list.is_full() {
+            return Err(Refusal::SecuritiesFull);
         }
-        self.table[count] = security;
-        self.filled = count + 1;
-        true
+        self.list.push(security);
+        Ok(())
     }
 }

@@ -1,5 +1,8 @@
 //! Admitted securities.
 
+ghost use Rattle.std.specs.Prelude.{◌≡◌};
+
+use arrayvec::ArrayVec;
 use registers::ranges::Ratio;
 
 /// An admitted security and its market risk ratio.
@@ -9,13 +12,24 @@ pub struct Security {
     pub ratio: Ratio,
 }
 
-/// The admitted securities, at most 64: the first `filled` of the table.
-#[derive(Clone, Copy)]
-pub struct Securities {
-    pub table: [Security; 64],
-    pub filled: usize,
+/// The security of number 0, which none bears, under the least ratio.
+impl Default for Security {
+    ghost is_default = { λ s. (s.number ≡ 0) × (s.ratio.value ≡ 1) };
+
+    fn default() -> Security {
+        Security {
+            number: 0,
+            ratio: Ratio { value: 1 },
+        }
+    }
 }
 
-/// A security's number, as a key of the table.
-#[derive(Clone, Copy)]
+/// The admitted securities, at most 64, in the order of their admission.
+#[derive(Clone, Drop)]
+pub struct Securities {
+    pub list: ArrayVec<Security, 64>,
+}
+
+/// A security's number, as a key of the list.
+#[derive(Clone, Copy, PartialEq, Eq, Debug)]
 pub struct SecurityNumber(pub u16);

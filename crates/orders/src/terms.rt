@@ -4,7 +4,7 @@ use crate::order::{Mode, Side};
 use registers::ranges::{Price, Quantity};
 
 /// The arguments of an announcement: mode 1 is full collateral, mode 2 partial.
-#[derive(Clone, Copy)]
+#[derive(Clone, Copy, PartialEq, Eq, Debug)]
 pub struct Announcement {
     pub side: Side,
     pub mode: u8,
@@ -16,7 +16,7 @@ pub struct Announcement {
 }
 
 /// The arguments of a trade: its number, the numbers of the two orders, quantity and price.
-#[derive(Clone, Copy)]
+#[derive(Clone, Copy, PartialEq, Eq, Debug)]
 pub struct Deal {
     pub number: u32,
     pub buy: u32,
@@ -26,7 +26,7 @@ pub struct Deal {
 }
 
 /// The arguments of an opening.
-#[derive(Clone, Copy)]
+#[derive(Clone, Copy, PartialEq, Eq, Debug)]
 pub struct Opening {
     pub kind: u8,
     pub code: u32,

@@ -7,9 +7,9 @@ pub returns-then-not-code_ok : goal.returns-then-not-code_ok
 unfolding credit_of
 returns-then-not-code_ok g c = search (rules, to_z-of_z)
 
-pub returns-in_default : goal.returns-in_default
+pub returns-in_err-amount : goal.returns-in_err-amount
 unfolding credit_of
-returns-in_default g c = search (rules, to_z-of_z)
+returns-in_err-amount g c = search (rules, to_z-of_z)
 
 pub returns-in_err-register : goal.returns-in_err-register
 unfolding credit_of

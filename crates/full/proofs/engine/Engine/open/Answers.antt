@@ -2,9 +2,9 @@ use Rattle.std.proofs.Common.{rules}
 use Rattle.full.specs.Calls.{open_of}
 use Rattle.full.proofs.engine.Engine.open.Goals as goal
 
-pub returns-in_default : goal.returns-in_default
+pub returns-in_err-key : goal.returns-in_err-key
 unfolding open_of
-returns-in_default g c = search rules
+returns-in_err-key g c = search rules
 
 pub returns-then-is_none : goal.returns-then-is_none
 unfolding open_of

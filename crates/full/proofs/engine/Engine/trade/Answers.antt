@@ -14,9 +14,9 @@ pub returns-in_err-pair : goal.returns-in_err-pair
 unfolding trade_of
 returns-in_err-pair g c = search rules
 
-pub returns-then-not-is_full : goal.returns-then-not-is_full
+pub returns-then-ne : goal.returns-then-ne
 unfolding trade_of
-returns-then-not-is_full g c = search rules
+returns-then-ne g c = search rules
 
 pub returns-in_err-four : goal.returns-in_err-four
 unfolding trade_of
