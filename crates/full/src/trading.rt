@@ -91,8 +91,8 @@ pub(crate) fn settle(
     value: Amount,
     block: Amount,
 ) -> Result<Moves, Refusal>
-    ensures answer { result ≡ settle_of r quantity.count value.units block.units }
-    ensures moves { IfOk result (λ m. m ≡ moves_of r quantity.count value.units block.units) }
+    ensures answer { result ≡ settle_of r quantity.value value.units block.units }
+    ensures moves { IfOk result (λ m. m ≡ moves_of r quantity.value value.units block.units) }
 {
     if !all_in(
         r.payer.figures,
@@ -103,7 +103,7 @@ pub(crate) fn settle(
         return Err(Refusal::Store(StoreFault::OutOfRange));
     }
     let pieces = Amount {
-        units: u64::from(quantity.count),
+        units: u64::from(quantity.value),
     };
     let payer = paid(r.payer.figures, value, block);
     let payee = raised(r.payee.figures, value);

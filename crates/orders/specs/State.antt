@@ -28,7 +28,7 @@ pub record Live : Type 0 where
 
 -- what the engine's tables hold
 abbrev pub live_of : Order → Live
-live_of o = record { number = o.number; side = o.side; mode = o.mode; account = o.account; security = o.security; price = o.price.value; ratio = o.ratio.value; rest = o.rest.count }
+live_of o = record { number = o.number; side = o.side; mode = o.mode; account = o.account; security = o.security; price = o.price.value; ratio = o.ratio.value; rest = o.rest.value }
 
 abbrev pub slot_of : Option Order → Option Live
 slot_of o = option_map live_of o

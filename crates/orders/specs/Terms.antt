@@ -47,7 +47,7 @@ unfoldable pub terms_of : Announcement → Option TermsOf
 terms_of a = terms_in (mode_of a.mode) a
 
 abbrev pub terms_as : Terms → TermsOf
-terms_as t = record { mode = t.mode; quantity = t.quantity.count; price = t.price.value }
+terms_as t = record { mode = t.mode; quantity = t.quantity.value; price = t.price.value }
 
 -- a trade's numbers, if all of its arguments lie in their ranges
 pub record BargainOf : Type 0 where
@@ -60,4 +60,4 @@ bargain_of d =
     (Some (record { quantity = d.quantity; price = d.price })) None
 
 abbrev pub bargain_as : Bargain → BargainOf
-bargain_as b = record { quantity = b.quantity.count; price = b.price.value }
+bargain_as b = record { quantity = b.quantity.value; price = b.price.value }

@@ -12,4 +12,4 @@ abbrev pub found_as : Found → FoundOf
 found_as f = record { place = f.place; order = live_of f.order }
 
 abbrev pub pair_as : Pair → PairOf
-pair_as p = record { buy_place = p.bought; sell_place = p.sold; buy = live_of p.buy; sell = live_of p.sell; quantity = p.quantity.count; price = p.price.value }
+pair_as p = record { buy_place = p.bought; sell_place = p.sold; buy = live_of p.buy; sell = live_of p.sell; quantity = p.quantity.value; price = p.price.value }

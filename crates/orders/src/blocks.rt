@@ -7,14 +7,14 @@ ghost use Rattle.orders.specs.Blocks.{cash_key, holding_key, participant_key, ke
 use crate::order::{Mode, Order, Side};
 use registers::amounts::{money, risk};
 use registers::ranges::{Amount, Quantity};
-use registers::row::Key;
+use registers::row::{Key, Kind};
 
 /// The key of an account's cash.
 pub fn cash_key(account: u32) -> Key
     ensures { result ≡ cash_key account }
 {
     Key {
-        kind: 1,
+        kind: Kind::Cash as u8,
         code: account,
         security: 0,
     }
@@ -25,7 +25,7 @@ pub fn holding_key(account: u32, security: u16) -> Key
     ensures { result ≡ holding_key account security }
 {
     Key {
-        kind: 2,
+        kind: Kind::Holding as u8,
         code: account,
         security,
     }
@@ -35,7 +35,7 @@ fn participant_key(account: u32) -> Key
     ensures { result ≡ participant_key account }
 {
     Key {
-        kind: 3,
+        kind: Kind::Participant as u8,
         code: account / 100,
         security: 0,
     }
@@ -55,13 +55,13 @@ impl Order {
 
     /// The block of a quantity of the order, at its price and under its ratio.
     pub fn block(self, quantity: Quantity) -> Amount
-        ensures value { result.units ≡ block_units self.mode self.side quantity.count self.price.value self.ratio.value }
+        ensures value { result.units ≡ block_units self.mode self.side quantity.value self.price.value self.ratio.value }
         ensures bound { result.units ≤ 1000000000000 }
     {
         match (self.mode, self.side) {
             (Mode::Full, Side::Buy) => money(quantity, self.price),
             (Mode::Full, Side::Sell) => Amount {
-                units: u64::from(quantity.count),
+                units: u64::from(quantity.value),
             },
             (Mode::Partial, _) => risk(quantity, self.price, self.ratio),
         }

@@ -75,17 +75,17 @@ impl Book {
     /// is left. A place that is free, or past the table's end, changes nothing.
     #[tactic(auto, using(crate::proofs::Tables::written))]
     pub fn lower(&mut self, place: usize, traded: Quantity)
-        ensures orders { slots_of self.new ≡ slice_set (slots_of self.old) place (lowered (slice_index_or (slots_of self.old) place None) traded.count) }
+        ensures orders { slots_of self.new ≡ slice_set (slots_of self.old) place (lowered (slice_index_or (slots_of self.old) place None) traded.value) }
         ensures last { self.new.last ≡ self.old.last }
     {
         if place >= self.orders.len() {
             return;
         }
         if let Some(order) = &mut self.orders[place] {
-            if order.rest.count <= traded.count {
+            if order.rest.value <= traded.value {
                 self.free(place);
             } else {
-                order.rest.count -= traded.count;
+                order.rest.value -= traded.value;
             }
         }
     }

@@ -90,7 +90,7 @@ fn matched(p: Pair) -> Result<Pair, Refusal>
     if p.buy.account == p.sell.account {
         return Err(Refusal::SameAccount);
     }
-    if p.quantity.count > p.buy.rest.count || p.quantity.count > p.sell.rest.count {
+    if p.quantity.value > p.buy.rest.value || p.quantity.value > p.sell.rest.value {
         return Err(Refusal::AboveRest);
     }
     if p.price.value > p.buy.price.value || p.price.value < p.sell.price.value {
