@@ -1,8 +1,10 @@
 -- Registers of different keys lie at different places.
-use Rattle.std.proofs.Common.{◌≡◌, ℕ, suc, ◌+◌, Bool, true, false, cond, ◌&&◌, eqb, List, [], ◌∷◌, Some, None, Ok, Err, Option, Result, sym, refl, ap, ◌∙◌, arith, eqb-true}
+use Rattle.std.proofs.Common.{◌≡◌, ◌≢◌, ℕ, suc, ◌+◌, Bool, true, false, cond, ◌&&◌, eqb, List, [], ◌∷◌, map, Some, None, Ok, Err, Option, Result, sym, refl, ap, ◌∙◌, arith, eqb-true}
 use Rattle.std.proofs.lemmas.Bool.{and_parts}
-use Rattle.std.specs.List.{slice_get}
+use Rattle.std.specs.List.{slice_get, AllByRecursion, AllPairs}
 use Rattle.std.specs.Option.{option_map}
+use Rattle.std.proofs.lemmas.List.Elements.{All-from_recursion}
+use Rattle.std.proofs.lemmas.List.Kept.{AllPairs-cons}
 use Rattle.seek.specs.Place.{place_of, on_by}
 use Rattle.registers.specs.declared.row.Key.{Key}
 use Rattle.registers.specs.declared.row.Row.{Row}
@@ -11,7 +13,7 @@ use Rattle.registers.specs.Stores.{place_for}
 use Rattle.full.specs.declared.held.Held.{Held}
 use Rattle.orders.specs.declared.refusal.Refusal.{Refusal}
 use Rattle.full.specs.declared.moves.Four.{Four}
-use Rattle.full.specs.declared.moves.Moves.{Moves}
+use Rattle.full.specs.declared.moves.Move.{Move}
 use Rattle.orders.specs.Steps.{and_then}
 use Rattle.full.specs.Blocks.{held_in, held_from, held_at}
 use Rattle.orders.specs.Blocks.{cash_key, holding_key}
@@ -85,6 +87,15 @@ held_apart rs k l h j s t ne e =
     let u = ap (λ (x : Row). x.key) r in
     ne (sym p.0 ∙ ap (λ (x : Key). x.kind) u ∙ q.0) (sym p.1 ∙ ap (λ (x : Key). x.code) u ∙ q.1)
 
+-- places each of which differs from those after it
+abbrev Differ : List ℕ → Type 0
+Differ [] = Unit {0}
+Differ (i ∷ is) = AllByRecursion (λ (j : ℕ). i ≢ j) is × Differ is
+
+any_two : (is : List ℕ) → Differ is → AllPairs (λ (i j : ℕ). i ≢ j) is
+any_two [] h = λ i j d l k. absurd (omega arith)
+any_two (i ∷ is) h = AllPairs-cons (λ (i j : ℕ). i ≢ j) i is (All-from_recursion (λ (j : ℕ). i ≢ j) is h.0) (any_two is h.1)
+
 -- the four registers of a trade
 pub record Parts (rs : List Row) (buyer seller security : ℕ) (r : Four) : Type 0 where
   pub payer : Stands rs (cash_key buyer) r.payer
@@ -117,30 +128,25 @@ module _ (rs : List Row) (buyer seller security : ℕ) (r : Four) where
   -- they lie apart, since the accounts differ, and stand as they were read
   pub four_apart : Parts rs buyer seller security r → (buyer ≡ seller → ⊥) → (q value block : ℕ) → Apart (moves_of r q value block)
   four_apart s ne q value block =
-      record {
-        ab = held_apart rs (cash_key buyer) (cash_key seller) r.payer r.payee s.payer s.payee (λ x y. ne y);
-        ac = held_apart rs (cash_key buyer) (holding_key buyer security) r.payer r.taker s.payer s.taker (λ x y. omega arith);
-        ad = held_apart rs (cash_key buyer) (holding_key seller security) r.payer r.giver s.payer s.giver (λ x y. omega arith);
-        bc = held_apart rs (cash_key seller) (holding_key buyer security) r.payee r.taker s.payee s.taker (λ x y. omega arith);
-        bd = held_apart rs (cash_key seller) (holding_key seller security) r.payee r.giver s.payee s.giver (λ x y. omega arith);
-        cd = held_apart rs (holding_key buyer security) (holding_key seller security) r.taker r.giver s.taker s.giver (λ x y. ne y);
-      }
+      let ab = held_apart rs _ _ _ _ s.payer s.payee (λ x y. ne y) in
+      let ac = held_apart rs _ _ _ _ s.payer s.taker (λ x y. omega arith) in
+      let ad = held_apart rs _ _ _ _ s.payer s.giver (λ x y. omega arith) in
+      let bc = held_apart rs _ _ _ _ s.payee s.taker (λ x y. omega arith) in
+      let bd = held_apart rs _ _ _ _ s.payee s.giver (λ x y. omega arith) in
+      let cd = held_apart rs _ _ _ _ s.taker s.giver (λ x y. ne y) in
+      any_two (map (λ (m : Move). m.place) (moves_of r q value block)) ((ab, (ac, (ad, tt))), ((bc, (bd, tt)), ((cd, tt), (tt, tt))))
 
   pub four_standing : Parts rs buyer seller security r → (q value block : ℕ) → Standing rs (moves_of r q value block)
   four_standing s q value block =
-      record {
-        a_at = held_figures rs (cash_key buyer) r.payer s.payer;
-        b_at = held_figures rs (cash_key seller) r.payee s.payee;
-        c_at = held_figures rs (holding_key buyer security) r.taker s.taker;
-        d_at = held_figures rs (holding_key seller security) r.giver s.giver;
-      }
+      All-from_recursion (λ (m : Move). FiguresAt rs m.place m.before) (moves_of r q value block)
+      (held_figures rs _ _ s.payer, (held_figures rs _ _ s.payee, (held_figures rs _ _ s.taker, (held_figures rs _ _ s.giver, tt))))
 
 -- what putting the moves of a trade asks
-pub record Ready (rs : List Row) (m : Moves) : Type 0 where
-  pub apart : Apart m
-  pub standing : Standing rs m
+pub record Ready (rs : List Row) (ms : List Move) : Type 0 where
+  pub apart : Apart ms
+  pub standing : Standing rs ms
 
-pub four_ready : (rs t : List Row) (buyer seller security : ℕ) (r : Four) (q value block : ℕ) (m : Moves) → Ok r ≡ four_of rs buyer seller security → (buyer ≡ seller → ⊥) → t ≡ rs → m ≡ moves_of r q value block → Ready t m
-four_ready rs t buyer seller security r q value block m e ne same is =
+pub four_ready : (rs t : List Row) (buyer seller security : ℕ) (r : Four) (q value block : ℕ) (ms : List Move) → Ok r ≡ four_of rs buyer seller security → (buyer ≡ seller → ⊥) → t ≡ rs → ms ≡ moves_of r q value block → Ready t ms
+four_ready rs t buyer seller security r q value block ms e ne same is =
     let parts = four_parts rs buyer seller security r (sym e) in
     rw (same, is) (record { apart = four_apart rs buyer seller security r parts ne q value block; standing = four_standing rs buyer seller security r parts q value block })

@@ -1,5 +1,6 @@
 -- What a trade does: its checks in their order, the registers that it moves, and the state it leaves.
-use Rattle.std.specs.Prelude.{◌≡◌, ℕ, Bool, ◌&&◌, List, pos, ◌+ℤ◌, ◌-ℤ◌, None, Ok, Option, Result, slice_index_or, slice_set}
+use Rattle.std.specs.Prelude.{ℕ, List, [], ◌∷◌, map, All, AllPairs, ◌≢◌, pos, ◌+ℤ◌, ◌-ℤ◌, None, Ok, Option, Result, slice_index_or, slice_set}
+use Rattle.std.specs.List.{list_all}
 use Rattle.registers.specs.declared.row.Figures.{Figures}
 use Rattle.registers.specs.declared.row.Row.{Row}
 use Rattle.registers.specs.declared.fault.StoreFault.TheVariants.{OutOfRange}
@@ -9,7 +10,6 @@ use Rattle.registers.specs.Stores.{put_row}
 use Rattle.orders.specs.declared.refusal.Refusal.{Refusal}
 use Rattle.orders.specs.declared.refusal.Refusal.TheVariants.{BadValue, LeavesRange, Store}
 use Rattle.full.specs.declared.moves.Move.{Move}
-use Rattle.full.specs.declared.moves.Moves.{Moves}
 use Rattle.full.specs.declared.moves.Four.{Four}
 use Rattle.full.specs.declared.held.Held.{Held}
 use Rattle.orders.specs.declared.terms.Deal.{Deal}
@@ -41,32 +41,29 @@ raised_of f units = record { limit = f.limit +ℤ pos units; blocked = f.blocked
 abbrev pub move_to : Held → Figures → Move
 move_to h f = record { place = h.place; before = h.figures; after = f }
 
-abbrev pub moves_of : Four → ℕ → ℕ → ℕ → Moves
+-- the moves of a trade: of its payer, payee, taker and giver
+abbrev pub moves_of : Four → ℕ → ℕ → ℕ → List Move
 moves_of r q value block =
-    record {
-      a = move_to r.payer (paid_of r.payer.figures value block);
-      b = move_to r.payee (raised_of r.payee.figures value);
-      c = move_to r.taker (raised_of r.taker.figures q);
-      d = move_to r.giver (paid_of r.giver.figures q q);
-    }
-
--- a test of four figures
-abbrev pub all_in : Figures → Figures → Figures → Figures → Bool
-all_in a b c d = in_range a && (in_range b && (in_range c && in_range d))
+    move_to r.payer (paid_of r.payer.figures value block)
+    ∷ move_to r.payee (raised_of r.payee.figures value)
+    ∷ move_to r.taker (raised_of r.taker.figures q)
+    ∷ move_to r.giver (paid_of r.giver.figures q q)
+    ∷ []
 
 -- checks 25 and 26, each over all four
-unfoldable pub settle_of : Four → ℕ → ℕ → ℕ → Result Moves Refusal
+unfoldable pub settle_of : Four → ℕ → ℕ → ℕ → Result (List Move) Refusal
 settle_of r q value block =
-    demand (all_in r.payer.figures r.payee.figures r.taker.figures r.giver.figures) (Store OutOfRange)
-    (demand (all_in (paid_of r.payer.figures value block) (raised_of r.payee.figures value) (raised_of r.taker.figures q) (paid_of r.giver.figures q q)) LeavesRange
+    demand (list_all in_range (r.payer.figures ∷ r.payee.figures ∷ r.taker.figures ∷ r.giver.figures ∷ [])) (Store OutOfRange)
+    (demand (list_all (λ m. in_range m.after) (moves_of r q value block)) LeavesRange
     (Ok (moves_of r q value block)))
 
--- the rows once the moves are put
+-- the rows once a move is put, and once moves are put, one after the other
 abbrev pub moved : List Row → Move → List Row
 moved rs m = put_row rs m.place m.after
 
-abbrev pub moved_all : List Row → Moves → List Row
-moved_all rs m = moved (moved (moved (moved rs m.a) m.b) m.c) m.d
+abbrev pub moved_all : List Row → List Move → List Row
+moved_all rs [] = rs
+moved_all rs (m ∷ ms) = moved_all (moved rs m) ms
 
 -- an order's rest, lowered in its place
 abbrev pub lower_at : List (Option Live) → ℕ → ℕ → List (Option Live)
@@ -79,30 +76,16 @@ trade_of s d =
     and_then (pair_of s.orders s.last_trade d) (λ p.
     demand (is_full p.buy.mode) BadValue
     (and_then (four_of s.rows p.buy.account p.sell.account p.buy.security) (λ r.
-    and_then (settle_of r p.quantity (money_of p.quantity p.price) (money_of p.quantity p.buy.price)) (λ m.
+    and_then (settle_of r p.quantity (money_of p.quantity p.price) (money_of p.quantity p.buy.price)) (λ ms.
     Ok (record {
       answer = pos (money_of p.quantity p.price);
-      next = with_last_trade (with_orders (with_rows s (moved_all s.rows m)) (lower_at (lower_at s.orders p.buy_place p.quantity) p.sell_place p.quantity)) d.number;
+      next = with_last_trade (with_orders (with_rows s (moved_all s.rows ms)) (lower_at (lower_at s.orders p.buy_place p.quantity) p.sell_place p.quantity)) d.number;
     })))))
 
 -- moves whose places all differ
-pub record Apart (m : Moves) : Type 0 where
-  pub ab : m.a.place ≡ m.b.place → ⊥
-  pub ac : m.a.place ≡ m.c.place → ⊥
-  pub ad : m.a.place ≡ m.d.place → ⊥
-  pub bc : m.b.place ≡ m.c.place → ⊥
-  pub bd : m.b.place ≡ m.d.place → ⊥
-  pub cd : m.c.place ≡ m.d.place → ⊥
+abbrev pub Apart : List Move → Type 0
+Apart ms = AllPairs (λ x y. x ≢ y) (map (λ m. m.place) ms)
 
 -- moves whose figures before are those of the rows
-pub record Standing (rs : List Row) (m : Moves) : Type 0 where
-  pub a_at : FiguresAt rs m.a.place m.a.before
-  pub b_at : FiguresAt rs m.b.place m.b.before
-  pub c_at : FiguresAt rs m.c.place m.c.before
-  pub d_at : FiguresAt rs m.d.place m.d.before
-
--- the same moves in another order
-pub record Reordered (m n : Moves) : Type 0 where
-  pub apart : Apart m → Apart n
-  pub standing : (rs : List Row) → Standing rs m → Standing rs n
-  pub same : (rs : List Row) → Apart m → moved_all rs n ≡ moved_all rs m
+abbrev pub Standing : List Row → List Move → Type 0
+Standing rs ms = All (λ m. FiguresAt rs m.place m.before) ms

@@ -11,15 +11,6 @@ pub struct Move {
     pub after: Figures,
 }
 
-/// Four moves.
-#[derive(Clone, Copy)]
-pub struct Moves {
-    pub a: Move,
-    pub b: Move,
-    pub c: Move,
-    pub d: Move,
-}
-
 /// The registers of a trade with full collateral: the buyer's and the seller's cash, and the buyer's
 /// and the seller's holding.
 #[derive(Clone, Copy)]

@@ -1,13 +1,14 @@
 //! Trades.
 
 ghost use Rattle.std.specs.Prelude.{◌≡◌, true, IfOk};
-ghost use Rattle.registers.specs.Registers.{Bounded};
+ghost use Rattle.std.specs.List.{list_all, AllByRecursion};
+ghost use Rattle.registers.specs.Registers.{Bounded, in_range};
 ghost use Rattle.full.specs.Plans.{state_of, Done};
-ghost use Rattle.full.specs.Trades.{all_in, four_of, paid_of, raised_of, move_to, settle_of, trade_of, moves_of};
+ghost use Rattle.full.specs.Trades.{four_of, paid_of, raised_of, move_to, settle_of, trade_of, moves_of};
 
 use crate::engine::Engine;
 use crate::held::Held;
-use crate::moves::{Four, Move, Moves};
+use crate::moves::{Four, Move};
 use crate::ordering::put_moves;
 use crate::registers_of::held;
 use orders::blocks::{cash_key, holding_key};
@@ -44,11 +45,11 @@ pub(crate) fn four<S: Store>(
     })
 }
 
-fn all_in(a: Figures, b: Figures, c: Figures, d: Figures) -> bool
-    ensures answer { result ≡ all_in a b c d }
-    ensures bounds { result ≡ true → Bounded a × Bounded b × Bounded c × Bounded d }
+fn all_in(figures: [Figures; 4]) -> bool
+    ensures answer { result ≡ list_all in_range figures }
+    ensures bounds { result ≡ true → AllByRecursion Bounded figures }
 {
-    a.in_range() && b.in_range() && c.in_range() && d.in_range()
+    figures.iter().all(|f| f.in_range())
 }
 
 fn paid(f: Figures, value: Amount, block: Amount) -> Figures
@@ -90,16 +91,16 @@ pub(crate) fn settle(
     quantity: Quantity,
     value: Amount,
     block: Amount,
-) -> Result<Moves, Refusal>
+) -> Result<[Move; 4], Refusal>
     ensures answer { result ≡ settle_of r quantity.value value.units block.units }
     ensures moves { IfOk result (λ m. m ≡ moves_of r quantity.value value.units block.units) }
 {
-    if !all_in(
+    if !all_in([
         r.payer.figures,
         r.payee.figures,
         r.taker.figures,
         r.giver.figures,
-    ) {
+    ]) {
         return Err(Refusal::Store(StoreFault::OutOfRange));
     }
     let pieces = Amount {
@@ -109,15 +110,15 @@ pub(crate) fn settle(
     let payee = raised(r.payee.figures, value);
     let taker = raised(r.taker.figures, pieces);
     let giver = paid(r.giver.figures, pieces, pieces);
-    if !all_in(payer, payee, taker, giver) {
+    if !all_in([payer, payee, taker, giver]) {
         return Err(Refusal::LeavesRange);
     }
-    Ok(Moves {
-        a: move_to(r.payer, payer),
-        b: move_to(r.payee, payee),
-        c: move_to(r.taker, taker),
-        d: move_to(r.giver, giver),
-    })
+    Ok([
+        move_to(r.payer, payer),
+        move_to(r.payee, payee),
+        move_to(r.taker, taker),
+        move_to(r.giver, giver),
+    ])
 }
 
 impl<S: Store> Engine<S> {

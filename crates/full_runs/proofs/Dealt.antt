@@ -1,9 +1,11 @@
 -- A trade keeps the promise.
-use Rattle.std.proofs.Common.{◌≡◌, ℕ, ◌-◌, ◌<◌, ◌≤◌, true, List, ◌++◌, length, get_or, set, pos, ◌-ℤ◌, Some, None, Ok, Option, sym, refl, ap, ◌∙◌, subst, arith, length-set}
+use Rattle.std.proofs.Common.{◌≡◌, ℕ, ◌-◌, ◌<◌, ◌≤◌, true, List, [], ◌∷◌, ◌++◌, length, get_or, set, pos, ◌-ℤ◌, Some, None, Ok, Option, sym, refl, ap, ◌∙◌, subst, arith, length-set}
+use Rattle.std.specs.List.{list_all}
 use Rattle.std.proofs.lemmas.List.{get_or-set_other}
 use Rattle.registers.specs.declared.row.Key.{Key}
 use Rattle.registers.specs.declared.row.Row.{Row}
 use Rattle.registers.specs.Amounts.{money_of}
+use Rattle.registers.specs.Registers.{in_range}
 use Rattle.registers.specs.Stores.{put_row}
 use Rattle.orders.specs.declared.order.Side.TheVariants.{Buy, Sell}
 use Rattle.orders.specs.declared.order.Mode.TheVariants.{Full}
@@ -13,9 +15,9 @@ use Rattle.orders.specs.Blocks.{cash_key, holding_key, block_units}
 use Rattle.orders.specs.Checks.{FoundOf, found_of, PairOf, pair_of, is_buy, is_full}
 use Rattle.full.specs.declared.held.Held.{Held}
 use Rattle.full.specs.declared.moves.Four.{Four}
-use Rattle.full.specs.declared.moves.Moves.{Moves}
+use Rattle.full.specs.declared.moves.Move.{Move}
 use Rattle.full.specs.Plans.{State, with_rows, with_orders, with_last_trade}
-use Rattle.full.specs.Trades.{four_of, settle_of, paid_of, raised_of, all_in, moves_of, moved_all, lower_at, trade_of, Apart}
+use Rattle.full.specs.Trades.{four_of, settle_of, paid_of, raised_of, moves_of, moved_all, lower_at, trade_of, Apart}
 use Rattle.full.proofs.Places.{Stands, Parts, four_parts, four_apart}
 use Rattle.full_runs.specs.declared.call.Call.TheVariants.{Trade}
 use Rattle.full_runs.specs.Keyed.{at, put}
@@ -34,10 +36,10 @@ use Rattle.full_runs.proofs.Withdraws.{owed_apart}
 open_stands : (rows : List Row) (k : Key) (h : Held) → Stands rows k h → Open rows k h
 open_stands rows k h s = record { row = s.row; at = s.at; key = same_key_lem s.row.key k s.bears; figures = s.figures }
 
-settled : (r : Four) (q v b : ℕ) (m : Moves) → settle_of r q v b ≡ Ok m → moves_of r q v b ≡ m
+settled : (r : Four) (q v b : ℕ) (ms : List Move) → settle_of r q v b ≡ Ok ms → moves_of r q v b ≡ ms
 unfolding settle_of
-settled r q v b m e =
-    let p : Passed (all_in r.payer.figures r.payee.figures r.taker.figures r.giver.figures) (all_in (paid_of r.payer.figures v b) (raised_of r.payee.figures v) (raised_of r.taker.figures q) (paid_of r.giver.figures q q)) (moves_of r q v b) m = two_checks _ _ _ _ _ _ e in
+settled r q v b ms e =
+    let p : Passed (list_all in_range (r.payer.figures ∷ r.payee.figures ∷ r.taker.figures ∷ r.giver.figures ∷ [])) (list_all (λ (m : Move). in_range m.after) (moves_of r q v b)) (moves_of r q v b) ms = two_checks _ _ _ _ _ _ e in
     p.same
 
 -- one order of a trade: its note, and its place in the book
@@ -216,21 +218,21 @@ module _ (reserve : ℕ) (t : Tally) (s : State) (h : Promise reserve t s) (d : 
     unfolding raised_of
     books_b =
         raised_books reserve t.opened notes1 times1 rows_a books_a (cash_key p.sell.account) r.payee
-        (open_kept s.rows (cash_key p.sell.account) r.payee r.payer.place _ lie_apart.ab (open_stands s.rows (cash_key p.sell.account) r.payee parts.payee)) value
+        (open_kept s.rows (cash_key p.sell.account) r.payee r.payer.place _ (lie_apart 0 1 0 (omega arith) (omega arith)) (open_stands s.rows (cash_key p.sell.account) r.payee parts.payee)) value
 
     books_c : Books reserve t.opened notes1 times1 rows_c
     unfolding raised_of
     books_c =
         raised_books reserve t.opened notes1 times1 rows_b books_b (holding_key p.buy.account p.buy.security) r.taker
-        (open_kept rows_a (holding_key p.buy.account p.buy.security) r.taker r.payee.place _ lie_apart.bc
-        (open_kept s.rows (holding_key p.buy.account p.buy.security) r.taker r.payer.place _ lie_apart.ac (open_stands s.rows (holding_key p.buy.account p.buy.security) r.taker parts.taker))) p.quantity
+        (open_kept rows_a (holding_key p.buy.account p.buy.security) r.taker r.payee.place _ (lie_apart 1 2 0 (omega arith) (omega arith))
+        (open_kept s.rows (holding_key p.buy.account p.buy.security) r.taker r.payer.place _ (lie_apart 0 2 0 (omega arith) (omega arith)) (open_stands s.rows (holding_key p.buy.account p.buy.security) r.taker parts.taker))) p.quantity
 
     giver_open : Open rows_c (register_of sy.note) r.giver
     giver_open =
         subst (λ (k : Key). Open rows_c k r.giver) sell_key
-        (open_kept rows_b (holding_key p.sell.account p.buy.security) r.giver r.taker.place _ lie_apart.cd
-        (open_kept rows_a (holding_key p.sell.account p.buy.security) r.giver r.payee.place _ lie_apart.bd
-        (open_kept s.rows (holding_key p.sell.account p.buy.security) r.giver r.payer.place _ lie_apart.ad (open_stands s.rows (holding_key p.sell.account p.buy.security) r.giver parts.giver))))
+        (open_kept rows_b (holding_key p.sell.account p.buy.security) r.giver r.taker.place _ (lie_apart 2 3 0 (omega arith) (omega arith))
+        (open_kept rows_a (holding_key p.sell.account p.buy.security) r.giver r.payee.place _ (lie_apart 1 3 0 (omega arith) (omega arith))
+        (open_kept s.rows (holding_key p.sell.account p.buy.security) r.giver r.payer.place _ (lie_apart 0 3 0 (omega arith) (omega arith)) (open_stands s.rows (holding_key p.sell.account p.buy.security) r.giver parts.giver))))
 
     books_d : Books reserve t.opened notes2 times2 (moved_all s.rows (moves_of r p.quantity value block))
     unfolding paid_of
@@ -254,14 +256,14 @@ module _ (reserve : ℕ) (t : Tally) (s : State) (h : Promise reserve t s) (d : 
         ∙ ap (fed p.quantity) bx.at_n
         ∙ ap (traded_on (traded_on t p.quantity (Some bx.note)) p.quantity) sell_noted
 
-    pub dealt : (m : Moves) → settle_of r p.quantity value block ≡ Ok m → Promise reserve (entered t (Trade d)) (with_last_trade (with_orders (with_rows s (moved_all s.rows m)) (lower_at (lower_at s.orders p.buy_place p.quantity) p.sell_place p.quantity)) d.number)
-    dealt m em =
-        subst (λ (u : Tally). Promise reserve u (with_last_trade (with_orders (with_rows s (moved_all s.rows m)) (lower_at (lower_at s.orders p.buy_place p.quantity) p.sell_place p.quantity)) d.number)) (sym same_tally)
+    pub dealt : (ms : List Move) → settle_of r p.quantity value block ≡ Ok ms → Promise reserve (entered t (Trade d)) (with_last_trade (with_orders (with_rows s (moved_all s.rows ms)) (lower_at (lower_at s.orders p.buy_place p.quantity) p.sell_place p.quantity)) d.number)
+    dealt ms em =
+        subst (λ (u : Tally). Promise reserve u (with_last_trade (with_orders (with_rows s (moved_all s.rows ms)) (lower_at (lower_at s.orders p.buy_place p.quantity) p.sell_place p.quantity)) d.number)) (sym same_tally)
         (record {
           reserved = h.reserved;
           ratios = h.ratios;
           orders = subst (λ (os : List (Option Live)). Orders notes2 os s.last_order) (sym same_orders) orders2;
-          books = subst (λ (n : Moves). Books reserve t.opened notes2 times2 (moved_all s.rows n)) (settled r p.quantity value block m em) books_d;
+          books = subst (λ (ns : List Move). Books reserve t.opened notes2 times2 (moved_all s.rows ns)) (settled r p.quantity value block ms em) books_d;
         })
 
 module _ (reserve : ℕ) (t : Tally) (s : State) (h : Promise reserve t s) (d : Deal) where
