@@ -1,8 +1,8 @@
 -- What a whole day comes to.
 use Rattle.std.proofs.Common.{◌≡◌, ℕ, List, [], ◌∷◌, take, drop, None, Ok, Err, Option, Result, sym, refl, ap, ◌∙◌, subst, append-nil, arith}
 use Rattle.registers.specs.declared.row.Row.{Row}
-use Rattle.full.specs.Plans.{State}
-use Rattle.full_runs.specs.Runs.{outcomes_of, state_after, begin}
+use Rattle.full.specs.Plans.{State, begin}
+use Rattle.full_runs.specs.Runs.{outcomes_of, state_after}
 use Rattle.full_runs.specs.Tally.{empty, tallied}
 use Rattle.full_runs.specs.Law.{Law}
 use Rattle.full_runs.proofs.Laws.{finished}

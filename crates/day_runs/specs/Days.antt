@@ -1,9 +1,8 @@
 -- A day file as a list of calls.
 use Rattle.std.specs.Prelude.{ℕ, List, [], ◌∷◌, Ok, Err, Result}
 use Rattle.registers.specs.declared.row.Row.{Row}
-use Rattle.full.specs.Plans.{State}
+use Rattle.full.specs.Plans.{State, begin}
 use Rattle.full_runs.specs.declared.call.Call.{Call}
-use Rattle.full_runs.specs.Runs.{begin}
 use Rattle.day_records.specs.Items.{Item, Seen, Bad, header_of, items_of}
 use Rattle.dayfile.specs.declared.refusal.LineRefusal.{LineRefusal}
 use Rattle.dayfile.specs.Calls.{call_for}

@@ -1,7 +1,6 @@
 //! Carrying out a whole day.
 
 ghost use Rattle.std.specs.Prelude.{◌≡◌, ℕ, [], take};
-ghost use Rattle.full.specs.Plans.{state_of};
 ghost use Rattle.full_runs.specs.Runs.{outcomes_of, state_after};
 ghost use Rattle.full_runs.specs.Tally.{empty, tallied};
 ghost use Rattle.full_runs.specs.Law.{Law};
@@ -19,9 +18,9 @@ use registers::store::Store;
 /// If the store was empty, the law over whole runs holds after each call that the file asks for:
 /// between the state and a tally that was fed those calls and their outcomes alone.
 pub fn run_day<S: Store>(store: S, file: &[u8]) -> Engine<S>
-    ensures left { state_of S.Store.rows S.Store.capacity result ≡ state_after (begin_of (S.Store.rows store) (S.Store.capacity store) file.now) (calls_of file.now) }
+    ensures left { result.state ≡ state_after (begin_of (S.Store.rows store) (S.Store.capacity store) file.now) (calls_of file.now) }
     ensures law { S.Store.rows store ≡ [] → (n : ℕ) → Law (reserve_of file.now) (tallied empty (take n (calls_of file.now)) (outcomes_of (begin_of (S.Store.rows store) (S.Store.capacity store) file.now) (calls_of file.now))) (state_after (begin_of (S.Store.rows store) (S.Store.capacity store) file.now) (take n (calls_of file.now))) }
-    ensures kept { S.Store.rows store ≡ [] → Law (reserve_of file.now) (tallied empty (calls_of file.now) (outcomes_of (begin_of (S.Store.rows store) (S.Store.capacity store) file.now) (calls_of file.now))) (state_of S.Store.rows S.Store.capacity result) }
+    ensures kept { S.Store.rows store ≡ [] → Law (reserve_of file.now) (tallied empty (calls_of file.now) (outcomes_of (begin_of (S.Store.rows store) (S.Store.capacity store) file.now) (calls_of file.now))) result.state }
 {
     let day = match open(file) {
         Ok(day) => day,

@@ -2,8 +2,7 @@
 use Rattle.std.proofs.Common.{◌≡◌, ℕ, List, ◌∷◌, length, drop, Ok, Err, Result, ap, ◌∙◌, subst}
 use lib.Seq.{drop-length}
 use Rattle.registers.specs.declared.row.Row.{Row}
-use Rattle.full.specs.Plans.{State}
-use Rattle.full_runs.specs.Runs.{begin}
+use Rattle.full.specs.Plans.{State, begin}
 use Rattle.day_records.specs.declared.fault.FileFault.{FileFault}
 use Rattle.day_records.specs.Items.{items_from, header_of, items_behind}
 use Rattle.dayfile.specs.declared.line.Line.{Line}

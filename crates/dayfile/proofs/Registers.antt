@@ -1,8 +1,7 @@
 -- The lines of the registers from a place on.
-use Rattle.std.proofs.Common.{◌≡◌, ℕ, zero, suc, ◌+◌, ◌≤◌, List, [], ◌∷◌, map, length, drop, Some, None, Option, sym, ap, ◌∙◌, add-one, arith}
+use Rattle.std.proofs.Common.{◌≡◌, ℕ, zero, suc, ◌+◌, List, [], ◌∷◌, map, drop, Some, None, Option, sym, ap, ◌∙◌, add-one, arith}
 use lib.Seq.{drop-nil}
 use Rattle.std.specs.List.{slice_get}
-use Rattle.std.proofs.lemmas.List.{drop_all}
 use Rattle.registers.specs.declared.row.Row.{Row}
 use Rattle.full.specs.Plans.{State}
 use Rattle.day_records.specs.Items.{Item}
@@ -39,18 +38,13 @@ module _ (stage : Stage) (s t : State) (count : ℕ) (items : List Item) (place 
   stage_told : (u : State) → told stage u count items ≡ map Register (drop place u.rows)
   stage_told u = ap (λ (x : Stage). told x u count items) at
 
-  no_register : t.rows ≡ s.rows → drop place s.rows ≡ [] → Front (told stage s count items) None (told stage t count items)
+  -- past the last
+  pub no_register : t ≡ s → None ≡ slice_get s.rows place → Front (told stage s count items) None (told stage t count items)
   no_register same e =
-      none _ _ (stage_told s ∙ ap (map Register) e) (stage_told t ∙ ap (λ (rs : List Row). map Register (drop place rs)) same ∙ ap (map Register) e)
-
-  -- past the last, in the two ways that the code sees it
-  pub past_count : (n : ℕ) → t.rows ≡ s.rows → n ≡ length s.rows → n ≤ place → Front (told stage s count items) None (told stage t count items)
-  past_count n same c h = no_register same (drop_all place s.rows (omega arith))
-
-  pub past_rows : (rows : List Row) → rows ≡ s.rows → t.rows ≡ rows → None ≡ slice_get rows place → Front (told stage s count items) None (told stage t count items)
-  past_rows rows same kept e = no_register (kept ∙ same) (drop_none s.rows place (e ∙ ap (λ (rs : List Row). slice_get rs place) same))
+      let d : told stage s count items ≡ [] = stage_told s ∙ ap (map Register) (drop_none s.rows place e) in
+      none _ _ d (ap (λ (u : State). told stage u count items) same ∙ d)
 
   -- a register is told, and those behind it are left
-  pub one_register : (row : Row) (rows rows' : List Row) → rows ≡ s.rows → rows' ≡ rows → Some row ≡ slice_get rows place → Front (told stage s count items) (Some (Register row)) (map Register (drop (place + 1) rows'))
-  one_register row rows rows' same kept e =
-      front _ _ _ (stage_told s ∙ ap (λ (rs : List Row). map Register (drop place rs)) (sym same) ∙ ap (map Register) (drop_nth rows place row e) ∙ ap (λ (i : ℕ). Register row ∷ map Register (drop i rows)) (sym (add-one place)) ∙ ap (λ (rs : List Row). Register row ∷ map Register (drop (place + 1) rs)) (sym kept))
+  pub one_register : (row : Row) → t ≡ s → Some row ≡ slice_get s.rows place → Front (told stage s count items) (Some (Register row)) (map Register (drop (place + 1) t.rows))
+  one_register row same e =
+      front _ _ _ (stage_told s ∙ ap (map Register) (drop_nth s.rows place row e) ∙ ap (λ (i : ℕ). Register row ∷ map Register (drop i s.rows)) (sym (add-one place)) ∙ ap (λ (u : State). Register row ∷ map Register (drop (place + 1) u.rows)) (sym same))

@@ -1,7 +1,7 @@
 -- The lines of a day that are still to be told.
 use Rattle.std.specs.Prelude.{ℕ, List, ◌∷◌, map, drop, Some, None, Option}
-use Rattle.registers.specs.declared.row.Row.{Row}
-use Rattle.full.specs.Plans.{State, state_of}
+use Rattle.registers.specs.declared.store.Store.{Ghosts}
+use Rattle.full.specs.Plans.{State}
 use Rattle.day_records.specs.declared.cursor.Reader.{Reader}
 use Rattle.day_records.specs.Items.{Item, Seen, Bad, item_at, items_from}
 use Rattle.dayfile.specs.declared.day.Stage.{Stage}
@@ -34,5 +34,5 @@ told (Header fault) s count items = Fault 1 (File fault) 0 ∷ lines_from s coun
 told Records s count items = lines_from s count items
 told (Registers place) s count items = map Register (drop place s.rows)
 
-abbrev pub lines_left : {S : Type 0} → (S → List Row) → (S → ℕ) → Day S → List Line
-lines_left rows capacity d = told d.stage (state_of rows capacity d.engine) d.count (items_left d.records)
+abbrev pub lines_left : {S : Type 0} {store : Ghosts S} → Day S store → List Line
+lines_left d = told d.stage d.engine.state d.count (items_left d.records)

@@ -2,9 +2,9 @@
 use Rattle.std.specs.Prelude.{◌≡◌, ℕ, ◌+◌, List, [], ◌∷◌, map, ℤ, Ok, Err, Result}
 use Rattle.registers.specs.declared.row.Row.{Row}
 use Rattle.orders.specs.declared.refusal.Refusal.{Refusal}
-use Rattle.full.specs.Plans.{State}
+use Rattle.full.specs.Plans.{State, begin}
 use Rattle.full_runs.specs.declared.call.Call.{Call}
-use Rattle.full_runs.specs.Runs.{outcome, next, begin}
+use Rattle.full_runs.specs.Runs.{outcome, next}
 use Rattle.day_records.specs.declared.fault.FileFault.{FileFault}
 use Rattle.day_records.specs.declared.kind.Kind.{Kind}
 use Rattle.day_records.specs.Items.{Item, Seen, Bad, header_of, items_of}

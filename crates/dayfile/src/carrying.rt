@@ -1,6 +1,5 @@
 //! Carrying out a record.
 
-ghost use Rattle.full.specs.Plans.{state_of};
 ghost use Rattle.day_records.specs.Kinds.{kind_of, body_of};
 ghost use Rattle.dayfile.specs.Lines.{Carried};
 
@@ -14,7 +13,7 @@ use registers::store::Store;
 /// Carries out a record as the one call that it asks for; answers what the engine answers. Refuses as
 /// `call` does (32, 5), and as the engine does; the engine is then as it stood.
 pub fn carry_out<S: Store>(engine: &mut Engine<S>, record: Record<'_>) -> Result<i64, LineRefusal>
-    ensures { Carried (kind_of «record».entry) (body_of «record».entry) (state_of S.Store.rows S.Store.capacity engine.old) (state_of S.Store.rows S.Store.capacity engine.new) result }
+    ensures { Carried (kind_of «record».entry) (body_of «record».entry) engine.old.state engine.new.state result }
 {
     let call = call(record)?;
     Ok(runs::carry_out(engine, call)?)

@@ -5,6 +5,7 @@ ghost use Rattle.std.specs.Prelude.{◌≤◌};
 use day_records::cursor::Reader;
 use day_records::fault::FileFault;
 use full::engine::Engine;
+use registers::store::Store;
 
 /// What a listing tells next.
 #[derive(Clone, Copy)]
@@ -19,7 +20,7 @@ pub enum Stage {
 
 /// A day on its way: the engine, the records that are still to be read, how many were read without
 /// fault, and what is told next. Once the registers are told, records and count mean nothing.
-pub struct Day<'a, S> {
+pub struct Day<'a, S: Store> {
     pub engine: Engine<S>,
     pub records: Reader<'a>,
     pub count: usize,

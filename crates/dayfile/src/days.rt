@@ -1,10 +1,9 @@
 //! A day carried out, line by line.
 
-ghost use Rattle.std.specs.Prelude.{◌≡◌, ◌∷◌, drop};
+ghost use Rattle.std.specs.Prelude.{◌≡◌, ◌∷◌, ◌<◌, drop, OnSome};
 ghost use Rattle.std.specs.List.{slice_get};
-ghost use Rattle.full.specs.Plans.{state_of};
+ghost use Rattle.full.specs.Plans.{begin};
 ghost use Rattle.dayfile.specs.declared.day.Stage.TheVariants.{Records, Registers};
-ghost use Rattle.full_runs.specs.Runs.{begin};
 ghost use Rattle.day_records.specs.Items.{header_of};
 ghost use Rattle.dayfile.specs.Lines.{lines_of, reserve_in};
 ghost use Rattle.dayfile.specs.Days.{lines_left, item_next, left_by};
@@ -16,15 +15,28 @@ use crate::refusal::LineRefusal;
 use day_records::cursor::Reader;
 use day_records::reader::open;
 use full::engine::Engine;
+use registers::row::Row;
 use registers::store::Store;
+
+/// The row at a place of an engine's store, or `None` beyond the last; the state is as it stood.
+fn row_at<S: Store>(engine: &mut Engine<S>, place: usize) -> Option<Row>
+    ensures answer { result ≡ slice_get engine.old.state.rows place }
+    ensures kept { engine.new.state ≡ engine.old.state }
+    ensures small { OnSome result (place < 4096) }
+{
+    if place >= engine.store.count() {
+        return None;
+    }
+    engine.store.row(place)
+}
 
 impl<'a, S: Store> Day<'a, S> {
     /// A day over a store: the engine is new, with the reserve that the file's header has, and nothing
     /// of the file is carried out yet. A file whose header has a fault (30, 33) has that fault for its
     /// only line before the end.
     pub fn new(store: S, file: &'a [u8]) -> Day<'a, S>
-        ensures lines { lines_left S.Store.rows S.Store.capacity result ≡ lines_of (S.Store.rows store) (S.Store.capacity store) file.now }
-        ensures state { state_of S.Store.rows S.Store.capacity result.engine ≡ begin (S.Store.rows store) (S.Store.capacity store) (reserve_in (header_of file.now)) }
+        ensures lines { lines_left result ≡ lines_of (S.Store.rows store) (S.Store.capacity store) file.now }
+        ensures state { result.engine.state ≡ begin (S.Store.rows store) (S.Store.capacity store) (reserve_in (header_of file.now)) }
     {
         let day = match open(file) {
             Ok(day) => day,
@@ -51,9 +63,9 @@ impl<'a, S: Store> Day<'a, S> {
     /// The next line of the listing, or `None` after the last. A record is carried out when its line
     /// is told; after the records and a fault, if there is one, come the end and the registers.
     pub fn next(&mut self) -> Option<Line>
-        ensures answer { result ≡ slice_get (lines_left S.Store.rows S.Store.capacity self.old) 0 }
-        ensures left { lines_left S.Store.rows S.Store.capacity self.new ≡ drop 1 (lines_left S.Store.rows S.Store.capacity self.old) }
-        ensures state { state_of S.Store.rows S.Store.capacity self.new.engine ≡ left_by self.old.stage (item_next self.old.records) (state_of S.Store.rows S.Store.capacity self.old.engine) }
+        ensures answer { result ≡ slice_get (lines_left self.old) 0 }
+        ensures left { lines_left self.new ≡ drop 1 (lines_left self.old) }
+        ensures state { self.new.engine.state ≡ left_by self.old.stage (item_next self.old.records) self.old.engine.state }
     {
         match self.stage {
             Stage::Header(fault) => {
@@ -85,8 +97,8 @@ impl<'a, S: Store> Day<'a, S> {
     /// The line of the next record, or the end.
     fn next_record(&mut self) -> Line
         requires { self.old.stage ≡ Records }
-        ensures lines { lines_left S.Store.rows S.Store.capacity self.old ≡ result ∷ lines_left S.Store.rows S.Store.capacity self.new }
-        ensures state { state_of S.Store.rows S.Store.capacity self.new.engine ≡ left_by Records (item_next self.old.records) (state_of S.Store.rows S.Store.capacity self.old.engine) }
+        ensures lines { lines_left self.old ≡ result ∷ lines_left self.new }
+        ensures state { self.new.engine.state ≡ left_by Records (item_next self.old.records) self.old.engine.state }
     {
         let number = self.count;
         match self.records.next() {
@@ -114,14 +126,11 @@ impl<'a, S: Store> Day<'a, S> {
     /// The line of the register at a place.
     fn next_register(&mut self, place: usize) -> Option<Line>
         requires { self.old.stage ≡ Registers place }
-        ensures answer { result ≡ slice_get (lines_left S.Store.rows S.Store.capacity self.old) 0 }
-        ensures left { lines_left S.Store.rows S.Store.capacity self.new ≡ drop 1 (lines_left S.Store.rows S.Store.capacity self.old) }
-        ensures state { state_of S.Store.rows S.Store.capacity self.new.engine ≡ state_of S.Store.rows S.Store.capacity self.old.engine }
+        ensures answer { result ≡ slice_get (lines_left self.old) 0 }
+        ensures left { lines_left self.new ≡ drop 1 (lines_left self.old) }
+        ensures state { self.new.engine.state ≡ self.old.engine.state }
     {
-        if place >= self.engine.store.count() {
-            return None;
-        }
-        let Some(row) = self.engine.store.row(place) else {
+        let Some(row) = row_at(&mut self.engine, place) else {
             return None;
         };
         self.stage = Stage::Registers(place + 1);

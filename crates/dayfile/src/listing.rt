@@ -12,7 +12,7 @@ use std::fmt;
 
 /// Carries out what is left of a day, and writes its lines behind a text.
 fn write_lines<S: Store>(day: &mut Day<'_, S>, text: &mut String) -> fmt::Result
-    ensures { OnOk result (string_bytes text.new ≡ string_bytes text.old ++ listing_text (lines_left S.Store.rows S.Store.capacity day.old)) }
+    ensures { OnOk result (string_bytes text.new ≡ string_bytes text.old ++ listing_text (lines_left day.old)) }
 {
     while let Some(line) = day.next() {
         writeln!(text, "{line}")?;

@@ -1,9 +1,8 @@
 -- A call's plan: what it answers and the state that it leaves, or why it is refused.
-use Rattle.std.specs.Prelude.{◌≡◌, ℕ, List, ℤ, Ok, Err, Option, Result}
+use Rattle.std.specs.Prelude.{◌≡◌, ℕ, List, [], replicate, ℤ, None, Ok, Err, Option, Result}
 use Rattle.registers.specs.declared.row.Row.{Row}
 use Rattle.orders.specs.declared.refusal.Refusal.{Refusal}
-use Rattle.full.specs.declared.engine.Engine.{Engine}
-use Rattle.orders.specs.State.{Live, Admitted, slots_of, list_of}
+use Rattle.orders.specs.State.{Live, Admitted}
 
 -- what the rules speak of: the store's rows and room, the reserve, the admitted securities, the
 -- places of the order book, and the numbers of the last order and the last trade
@@ -16,8 +15,14 @@ pub record State : Type 0 where
   pub last_order : ℕ
   pub last_trade : ℕ
 
-abbrev pub state_of : {S : Type 0} → (S → List Row) → (S → ℕ) → Engine S → State
-state_of rows capacity e = record { rows = rows e.store; room = capacity e.store; reserve = e.reserve; securities = list_of e.securities; orders = slots_of e.book; last_order = e.book.last; last_trade = e.trade }
+-- what contracts see of an engine: its store, and the state
+pub record Kept (S : Type 0) : Type 0 where
+  pub store : S
+  pub state : State
+
+-- the state of a new engine over a store: nothing is admitted, ordered or traded yet
+abbrev pub begin : List Row → ℕ → ℕ → State
+begin rows room reserve = record { rows = rows; room = room; reserve = reserve; securities = []; orders = replicate 256 None; last_order = 0; last_trade = 0 }
 
 -- a state with other parts
 abbrev pub with_rows : State → List Row → State

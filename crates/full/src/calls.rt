@@ -1,10 +1,9 @@
 //! The calls of Level One, but for the trade.
 
-ghost use Rattle.std.specs.Prelude.{◌≡◌, ◌≤◌, [], replicate, None, OnOk};
+ghost use Rattle.std.specs.Prelude.{◌≡◌, ◌≤◌, OnOk};
 ghost use Rattle.orders.specs.declared.refusal.Refusal.TheVariants.{BadValue};
-ghost use Rattle.orders.specs.State.{slots_of, list_of};
 ghost use Rattle.orders.specs.Steps.{or_refuse};
-ghost use Rattle.full.specs.Plans.{state_of, Done};
+ghost use Rattle.full.specs.Plans.{begin, Done};
 ghost use Rattle.full.specs.Calls.{admit_of, opening_key, open_of, asset_key, credit_of, announce_of, withdraw_of};
 
 use crate::engine::Engine;
@@ -50,12 +49,8 @@ impl<S: Store> Engine<S> {
     /// An engine over a store, with a reserve in kopecks that announced purchases leave on each cash
     /// register. Nothing is admitted, ordered or traded yet; the store's rows are as they stood.
     pub fn new(store: S, reserve: u16) -> Engine<S>
-        ensures rows { result.store ≡ store }
-        ensures reserve { result.reserve ≡ reserve }
-        ensures securities { list_of result.securities ≡ [] }
-        ensures orders { slots_of result.book ≡ replicate 256 None }
-        ensures last { result.book.last ≡ 0 }
-        ensures trade { result.trade ≡ 0 }
+        ensures store { result.store ≡ store }
+        ensures state { result.state ≡ begin (S.Store.rows store) (S.Store.capacity store) reserve }
     {
         Engine {
             store,
@@ -83,7 +78,7 @@ impl<S: Store> Engine<S> {
     /// Admits a security under a market risk ratio; answers the count of securities. Refuses values
     /// outside their ranges (5), a security admitted already (3) and a 65th (4).
     pub fn admit(&mut self, security: u16, ratio: u16) -> Result<i64, Refusal>
-        ensures { Done (admit_of (state_of S.Store.rows S.Store.capacity self.old) security ratio) (state_of S.Store.rows S.Store.capacity self.old) (state_of S.Store.rows S.Store.capacity self.new) result }
+        ensures { Done (admit_of self.old.state security ratio) self.old.state self.new.state result }
     {
         if !security_ok(security) {
             return Err(Refusal::BadValue);
@@ -103,7 +98,7 @@ impl<S: Store> Engine<S> {
     /// ranges (5), a holding of a security that is not admitted (7), a register open already (1) and
     /// a full store (2).
     pub fn open(&mut self, o: Opening) -> Result<i64, Refusal>
-        ensures { Done (open_of (state_of S.Store.rows S.Store.capacity self.old) o) (state_of S.Store.rows S.Store.capacity self.old) (state_of S.Store.rows S.Store.capacity self.new) result }
+        ensures { Done (open_of self.old.state o) self.old.state self.new.state result }
     {
         let key = opening_key(o)?;
         if key.kind != 1 && self.securities.ratio(key.security).is_none() {
@@ -126,7 +121,7 @@ impl<S: Store> Engine<S> {
     /// values outside their ranges (5), a register that is not open (6), figures out of range (25)
     /// and figures that would leave it (26).
     pub fn credit(&mut self, code: u32, security: u16, amount: u64) -> Result<i64, Refusal>
-        ensures { Done (credit_of (state_of S.Store.rows S.Store.capacity self.old) code security amount) (state_of S.Store.rows S.Store.capacity self.old) (state_of S.Store.rows S.Store.capacity self.new) result }
+        ensures { Done (credit_of self.old.state code security amount) self.old.state self.new.state result }
     {
         if !code_ok(code) || security != 0 && !security_ok(security) {
             return Err(Refusal::BadValue);
@@ -145,7 +140,7 @@ impl<S: Store> Engine<S> {
     /// full book (9), an account whose cash or holding is not open (6), figures out of range on the
     /// register of the block (25), and an order that it does not cover (10).
     pub fn announce(&mut self, a: Announcement) -> Result<i64, Refusal>
-        ensures { Done (announce_of (state_of S.Store.rows S.Store.capacity self.old) a) (state_of S.Store.rows S.Store.capacity self.old) (state_of S.Store.rows S.Store.capacity self.new) result }
+        ensures { Done (announce_of self.old.state a) self.old.state self.new.state result }
     {
         if a.mode != 1 {
             return Err(Refusal::BadValue);
@@ -166,7 +161,7 @@ impl<S: Store> Engine<S> {
     /// answers the amount. Refuses a number that names no live order (11), a register that is not
     /// open (6), figures out of range (25) and figures that would leave it (26).
     pub fn withdraw(&mut self, number: u32) -> Result<i64, Refusal>
-        ensures { Done (withdraw_of (state_of S.Store.rows S.Store.capacity self.old) number) (state_of S.Store.rows S.Store.capacity self.old) (state_of S.Store.rows S.Store.capacity self.new) result }
+        ensures { Done (withdraw_of self.old.state number) self.old.state self.new.state result }
     {
         let found = self.book.found(number)?;
         let amount = found.order.block(found.order.rest);

@@ -3,7 +3,7 @@
 ghost use Rattle.std.specs.Prelude.{◌≡◌, true, IfOk};
 ghost use Rattle.std.specs.List.{list_all, AllByRecursion};
 ghost use Rattle.registers.specs.Registers.{Bounded, in_range};
-ghost use Rattle.full.specs.Plans.{state_of, Done};
+ghost use Rattle.full.specs.Plans.{Done};
 ghost use Rattle.full.specs.Trades.{four_of, paid_of, raised_of, move_to, settle_of, trade_of, moves_of};
 
 use crate::engine::Engine;
@@ -128,7 +128,7 @@ impl<S: Store> Engine<S> {
     /// of orders in partial mode (5), an account whose cash or holding is not open (6), figures out of
     /// range (25) and figures that would leave it (26).
     pub fn trade(&mut self, d: Deal) -> Result<i64, Refusal>
-        ensures { Done (trade_of (state_of S.Store.rows S.Store.capacity self.old) d) (state_of S.Store.rows S.Store.capacity self.old) (state_of S.Store.rows S.Store.capacity self.new) result }
+        ensures { Done (trade_of self.old.state d) self.old.state self.new.state result }
     {
         let pair = pair(&self.book, self.trade, d)?;
         if pair.buy.mode != Mode::Full {

@@ -8,10 +8,10 @@ use Rattle.std.proofs.lemmas.Bool.{ltb-false}
 use Rattle.registers.specs.declared.row.Row.{Row}
 use Rattle.orders.specs.declared.refusal.Refusal.{Refusal}
 use Rattle.orders.specs.State.{Live}
-use Rattle.full.specs.Plans.{State, Plan, answer_of, left_by}
+use Rattle.full.specs.Plans.{State, Plan, begin, answer_of, left_by}
 use Rattle.full_runs.specs.declared.call.Call.{Call}
 use Rattle.full_runs.specs.declared.call.Call.TheVariants.{Admit, Open, Credit, Announce, Withdraw, Trade}
-use Rattle.full_runs.specs.Runs.{call_of, outcome, next, outcomes_of, state_after, begin}
+use Rattle.full_runs.specs.Runs.{call_of, outcome, next, outcomes_of, state_after}
 use Rattle.full_runs.specs.Tally.{Tally, Opened, Note, empty, entered, noted, number, rest_of, standing, owed, times_on, tallied}
 use Rattle.full_runs.specs.Law.{FairIn, Promise, Law, Whole, lives, live_rest, slot_for, places_of, base_of, slack_of}
 use Rattle.full_runs.proofs.Announces.{announce_keeps}

@@ -1,6 +1,5 @@
 -- Runs: a list of calls, one after the other.
-use Rattle.std.specs.Prelude.{ℕ, List, [], ◌∷◌, replicate, ℤ, None, Result}
-use Rattle.registers.specs.declared.row.Row.{Row}
+use Rattle.std.specs.Prelude.{List, [], ◌∷◌, ℤ, Result}
 use Rattle.orders.specs.declared.refusal.Refusal.{Refusal}
 use Rattle.full.specs.Plans.{State, Plan, answer_of, left_by}
 use Rattle.full.specs.Calls.{admit_of, open_of, credit_of, announce_of, withdraw_of}
@@ -32,7 +31,3 @@ outcomes_of s (c ∷ cs) = outcome s c ∷ outcomes_of (next s c) cs
 abbrev pub state_after : State → List Call → State
 state_after s [] = s
 state_after s (c ∷ cs) = state_after (next s c) cs
-
--- a new engine over a store
-abbrev pub begin : List Row → ℕ → ℕ → State
-begin rows room reserve = record { rows = rows; room = room; reserve = reserve; securities = []; orders = replicate 256 None; last_order = 0; last_trade = 0 }

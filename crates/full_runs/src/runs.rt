@@ -1,8 +1,8 @@
 //! Carrying out calls.
 
 ghost use Rattle.std.specs.Prelude.{◌≡◌, ℕ, [], ◌++◌, length, take, drop};
-ghost use Rattle.full.specs.Plans.{state_of, Done};
-ghost use Rattle.full_runs.specs.Runs.{call_of, outcomes_of, state_after, begin};
+ghost use Rattle.full.specs.Plans.{begin, Done};
+ghost use Rattle.full_runs.specs.Runs.{call_of, outcomes_of, state_after};
 ghost use Rattle.full_runs.specs.Tally.{empty, tallied};
 ghost use Rattle.full_runs.specs.Law.{Law};
 
@@ -13,7 +13,7 @@ use registers::store::Store;
 
 /// Carries out one call; answers and refuses as the engine does.
 pub fn carry_out<S: Store>(engine: &mut Engine<S>, call: Call) -> Result<i64, Refusal>
-    ensures { Done (call_of (state_of S.Store.rows S.Store.capacity engine.old) call) (state_of S.Store.rows S.Store.capacity engine.old) (state_of S.Store.rows S.Store.capacity engine.new) result }
+    ensures { Done (call_of engine.old.state call) engine.old.state engine.new.state result }
 {
     match call {
         Call::Admit { security, ratio } => engine.admit(security, ratio),
@@ -43,9 +43,9 @@ pub fn run<S: Store>(
     outcomes: &mut [Result<i64, Refusal>],
 ) -> Engine<S>
     ensures told { outcomes.new ≡ outcomes_of (begin (S.Store.rows store) (S.Store.capacity store) reserve) (take (length outcomes.old) calls.now) ++ drop (length calls.now) outcomes.old }
-    ensures left { state_of S.Store.rows S.Store.capacity result ≡ state_after (begin (S.Store.rows store) (S.Store.capacity store) reserve) (take (length outcomes.old) calls.now) }
+    ensures left { result.state ≡ state_after (begin (S.Store.rows store) (S.Store.capacity store) reserve) (take (length outcomes.old) calls.now) }
     ensures law { S.Store.rows store ≡ [] → (n : ℕ) → Law reserve (tallied empty (take n (take (length outcomes.old) calls.now)) outcomes.new) (state_after (begin (S.Store.rows store) (S.Store.capacity store) reserve) (take n (take (length outcomes.old) calls.now))) }
-    ensures kept { S.Store.rows store ≡ [] → Law reserve (tallied empty (take (length outcomes.old) calls.now) outcomes.new) (state_of S.Store.rows S.Store.capacity result) }
+    ensures kept { S.Store.rows store ≡ [] → Law reserve (tallied empty (take (length outcomes.old) calls.now) outcomes.new) result.state }
 {
     let mut engine = Engine::new(store, reserve);
     let count = calls.len().min(outcomes.len());
