@@ -20,4 +20,4 @@ returns-in_err-add g c = search rules
 
 pub returns : goal.returns
 unfolding open_of
-returns g c = search rules
+returns g c = let few = g.met.S.Store.bounded c.self.inside.store in search rules
