@@ -10,15 +10,16 @@ use crate::engine::Engine;
 use crate::registers_of::{block_on, credit_on, floor, held, put_held, release_on};
 use orders::blocks::{cash_key, holding_key};
 use orders::checks::ready;
-use orders::order::Book;
+use orders::order::{Book, Mode};
 use orders::ranges::{amount as amount_of, code_ok, limit_ok, security_ok};
 use orders::refusal::Refusal;
 use orders::security::{Securities, Security};
 use orders::terms::{Announcement, Opening};
 use registers::ranges::Ratio;
-use registers::row::{Figures, Key, Row};
+use registers::row::{Figures, Key, Kind, Row};
 use registers::store::Store;
 
+#[tactic(auto, unfolding(crate::specs::Calls::opening_key))]
 fn opening_key(o: Opening) -> Result<Key, Refusal>
     ensures value { result ≡ or_refuse (opening_key o) BadValue }
     ensures bound { OnOk result (o.limit ≤ 100000000000000) }
@@ -26,10 +27,10 @@ fn opening_key(o: Opening) -> Result<Key, Refusal>
     if !code_ok(o.code) || !limit_ok(o.limit) || o.margin != 0 {
         return Err(Refusal::BadValue);
     }
-    if o.kind == 1 && o.security == 0 {
+    if o.kind == Kind::Cash as u8 && o.security == 0 {
         return Ok(cash_key(o.code));
     }
-    if o.kind == 2 && security_ok(o.security) {
+    if o.kind == Kind::Holding as u8 && security_ok(o.security) {
         return Ok(holding_key(o.code, o.security));
     }
     Err(Refusal::BadValue)
@@ -77,6 +78,7 @@ impl<S: Store> Engine<S> {
 
     /// Admits a security under a market risk ratio; answers the count of securities. Refuses values
     /// outside their ranges (5), a security admitted already (3) and a 65th (4).
+    #[tactic(auto, using(crate::proofs::Signed::counted), unfolding(crate::specs::Calls::admit_of))]
     pub fn admit(&mut self, security: u16, ratio: u16) -> Result<i64, Refusal>
         ensures { Done (admit_of self.old.state security ratio) self.old.state self.new.state result }
     {
@@ -97,11 +99,12 @@ impl<S: Store> Engine<S> {
     /// Opens a register of kind 1 or 2; answers the count of rows. Refuses values outside their
     /// ranges (5), a holding of a security that is not admitted (7), a register open already (1) and
     /// a full store (2).
+    #[tactic(auto, unfolding(crate::specs::Calls::open_of))]
     pub fn open(&mut self, o: Opening) -> Result<i64, Refusal>
         ensures { Done (open_of self.old.state o) self.old.state self.new.state result }
     {
         let key = opening_key(o)?;
-        if key.kind != 1 && self.securities.ratio(key.security).is_none() {
+        if key.kind != Kind::Cash as u8 && self.securities.ratio(key.security).is_none() {
             return Err(Refusal::NotAdmitted);
         }
         if self.store.find(key).is_some() {
@@ -120,6 +123,7 @@ impl<S: Store> Engine<S> {
     /// Raises the limit of an account's cash (security 0) or holding; answers the new limit. Refuses
     /// values outside their ranges (5), a register that is not open (6), figures out of range (25)
     /// and figures that would leave it (26).
+    #[tactic(auto, using(crate::proofs::Signed::signed), unfolding(crate::specs::Calls::credit_of))]
     pub fn credit(&mut self, code: u32, security: u16, amount: u64) -> Result<i64, Refusal>
         ensures { Done (credit_of self.old.state code security amount) self.old.state self.new.state result }
     {
@@ -139,10 +143,11 @@ impl<S: Store> Engine<S> {
     /// and partial mode (5), a number not above the last (8), a security that is not admitted (7), a
     /// full book (9), an account whose cash or holding is not open (6), figures out of range on the
     /// register of the block (25), and an order that it does not cover (10).
+    #[tactic(auto, unfolding(crate::specs::Calls::announce_of))]
     pub fn announce(&mut self, a: Announcement) -> Result<i64, Refusal>
         ensures { Done (announce_of self.old.state a) self.old.state self.new.state result }
     {
-        if a.mode != 1 {
+        if Mode::try_from(a.mode)? != Mode::Full {
             return Err(Refusal::BadValue);
         }
         let ready = ready(&self.securities, &self.book, a)?;
@@ -150,7 +155,11 @@ impl<S: Store> Engine<S> {
         let holding = held(&mut self.store, holding_key(a.account, a.security))?;
         let key = ready.order.block_key();
         let amount = ready.order.block(ready.order.rest);
-        let cover = if key.kind == 1 { cash } else { holding };
+        let cover = if key.kind == Kind::Cash as u8 {
+            cash
+        } else {
+            holding
+        };
         let blocked = block_on(cover, amount, floor(self.reserve, key))?;
         put_held(&mut self.store, cover, blocked.figures);
         self.book.add(ready.place, ready.order);
@@ -160,6 +169,7 @@ impl<S: Store> Engine<S> {
     /// Withdraws a live order, of either mode: the block of its rest is released and the order ends;
     /// answers the amount. Refuses a number that names no live order (11), a register that is not
     /// open (6), figures out of range (25) and figures that would leave it (26).
+    #[tactic(auto, unfolding(crate::specs::Calls::withdraw_of))]
     pub fn withdraw(&mut self, number: u32) -> Result<i64, Refusal>
         ensures { Done (withdraw_of self.old.state number) self.old.state self.new.state result }
     {

@@ -1,15 +1,19 @@
 //! Reading, changing and putting the registers that a call moves.
 
-ghost use Rattle.std.specs.Prelude.{◌≡◌, ◌<◌, true, false, pos, ◌+ℤ◌, ◌-ℤ◌, IfOk, ◌≢◌, int_le};
-ghost use Rattle.registers.specs.Registers.{Within};
+ghost use Rattle.std.specs.Prelude.{◌≡◌, ◌<◌, true, false, pos, ◌+ℤ◌, ◌-ℤ◌, is_ok, IfOk, Ok, Err, OnErr, ◌≢◌, int_le};
+ghost use Rattle.registers.specs.Registers.{Within, in_range};
+ghost use Rattle.orders.specs.declared.refusal.Refusal.TheVariants.{NotCovered, LeavesRange};
+ghost use Rattle.orders.specs.Steps.{demand};
+ghost use Rattle.full.specs.Trades.{paid_of, raised_of};
 ghost use Rattle.registers.specs.Stores.{put_row};
-ghost use Rattle.full.specs.Blocks.{held_at, FiguresAt, floor_of, block_on, release_on, credit_on, kept};
+ghost use Rattle.full.specs.Blocks.{held_at, FiguresAt, floor_of, block_on, release_on, credit_on, with_blocked, with_figures_of, kept};
 
 use crate::held::{Cover, Held};
 use orders::refusal::Refusal;
 use registers::fault::StoreFault;
+use registers::in_range::InRange;
 use registers::ranges::Amount;
-use registers::row::{Figures, Key};
+use registers::row::{Figures, Key, Kind};
 use registers::store::Store;
 
 /// The open register of a key. Refuses (6) where none is open; the store is as it stood.
@@ -46,7 +50,11 @@ pub fn put_held<S: Store>(store: &mut S, held: Held, figures: Figures)
 pub(crate) fn floor(reserve: u16, key: Key) -> u16
     ensures { result ≡ floor_of reserve key }
 {
-    if key.kind == 1 { reserve } else { 0 }
+    if key.kind == Kind::Cash as u8 {
+        reserve
+    } else {
+        0
+    }
 }
 
 /// A raised figure. It is set back where the guard ends, unless `confirm` took the guard apart.
@@ -89,105 +97,108 @@ impl<'a> Raised<'a> {
     }
 }
 
-/// Raises a blocked figure by an amount if the limit covers it, and answers whether it does. The
-/// figure is raised first, and set back on every way out unless it is confirmed.
-fn raise_covered(blocked: &mut i64, cover: Cover) -> bool
+/// Raises a blocked figure by an amount. Refuses (10) where the limit does not cover the raised figure
+/// and the floor; the figure, which is raised first, is then set back.
+fn raise_covered(blocked: &mut i64, cover: Cover) -> Result<(), Refusal>
     requires blocked { Within blocked.old }
     requires limit { Within cover.limit }
-    ensures answer { result ≡ int_le (pos cover.floor) (cover.limit -ℤ (blocked.old +ℤ pos cover.amount.units)) }
-    ensures after { blocked.new ≡ kept result (blocked.old +ℤ pos cover.amount.units) blocked.old }
+    ensures answer { is_ok result ≡ int_le (pos cover.floor) (cover.limit -ℤ (blocked.old +ℤ pos cover.amount.units)) }
+    ensures refusal { OnErr result (result ≡ Err NotCovered) }
+    ensures after { blocked.new ≡ kept (is_ok result) (blocked.old +ℤ pos cover.amount.units) blocked.old }
 {
     let guard = Raised::new(blocked, cover.amount);
     let left = cover.limit - guard.value();
     if left < i64::from(cover.floor) {
-        return false;
+        return Err(Refusal::NotCovered);
     }
     guard.confirm();
-    true
+    Ok(())
 }
 
 /// Blocks an amount on a register: its figures with the blocked figure raised. Refuses (25) figures
 /// out of range, and (10) where the limit does not cover the raised figure and the floor.
+#[tactic(auto, using(crate::proofs::Signed::signed), unfolding(crate::specs::Blocks::block_on, crate::specs::Blocks::covered))]
 pub fn block_on(held: Held, amount: Amount, floor: u16) -> Result<Held, Refusal>
     ensures answer { result ≡ block_on held amount.units floor }
     ensures placed { IfOk result (λ h. h.place ≡ held.place) }
 {
-    if !held.figures.in_range() {
-        return Err(Refusal::Store(StoreFault::OutOfRange));
-    }
-    let mut blocked = held.figures.blocked;
-    if !raise_covered(
-        &mut blocked,
-        Cover {
-            limit: held.figures.limit,
-            amount,
-            floor,
-        },
-    ) {
-        return Err(Refusal::NotCovered);
-    }
+    let f = held.figures.checked()?;
+    let mut blocked = f.figures.blocked;
+    let cover = Cover {
+        limit: f.figures.limit,
+        amount,
+        floor,
+    };
+    raise_covered(&mut blocked, cover)?;
     Ok(Held {
-        place: held.place,
         figures: Figures {
-            limit: held.figures.limit,
             blocked,
-            third: held.figures.third,
+            ..f.figures
         },
+        ..held
     })
+}
+
+/// A register with the figures at which it ends. Refuses (26) figures out of range.
+fn ending(held: Held, figures: Figures) -> Result<Held, Refusal>
+    ensures { result ≡ demand (in_range figures) LeavesRange (Ok (with_figures_of held figures)) }
+{
+    if !figures.in_range() {
+        return Err(Refusal::LeavesRange);
+    }
+    Ok(Held { figures, ..held })
+}
+
+/// Figures with the limit raised by an amount.
+#[tactic(auto, using(crate::proofs::Signed::signed), unfolding(crate::specs::Trades::raised_of))]
+pub(crate) fn credited(f: InRange, amount: Amount) -> Figures
+    ensures { result ≡ raised_of f.figures amount.units }
+{
+    Figures {
+        limit: f.figures.limit + amount.units as i64,
+        ..f.figures
+    }
+}
+
+/// Figures with the limit lowered by a value, and the blocked figure by a block.
+#[tactic(auto, using(crate::proofs::Signed::signed), unfolding(crate::specs::Trades::paid_of))]
+pub(crate) fn paid(f: InRange, value: Amount, block: Amount) -> Figures
+    ensures { result ≡ paid_of f.figures value.units block.units }
+{
+    Figures {
+        limit: f.figures.limit - value.units as i64,
+        blocked: f.figures.blocked - block.units as i64,
+        ..f.figures
+    }
+}
+
+/// Figures with the blocked figure lowered by an amount.
+#[tactic(auto, using(crate::proofs::Signed::signed))]
+fn released(f: InRange, amount: Amount) -> Figures
+    ensures { result ≡ with_blocked f.figures (f.figures.blocked -ℤ pos amount.units) }
+{
+    Figures {
+        blocked: f.figures.blocked - amount.units as i64,
+        ..f.figures
+    }
 }
 
 /// Releases an amount on a register: its figures with the blocked figure lowered. Refuses (25)
 /// figures out of range, and (26) where they would leave it.
+#[tactic(auto, using(crate::proofs::Signed::signed), unfolding(crate::specs::Blocks::release_on))]
 pub fn release_on(held: Held, amount: Amount) -> Result<Held, Refusal>
     ensures answer { result ≡ release_on held amount.units }
     ensures placed { IfOk result (λ h. h.place ≡ held.place) }
 {
-    let Figures {
-        limit,
-        blocked,
-        third,
-    } = held.figures;
-    if !held.figures.in_range() {
-        return Err(Refusal::Store(StoreFault::OutOfRange));
-    }
-    let figures = Figures {
-        limit,
-        blocked: blocked - amount.units as i64,
-        third,
-    };
-    if !figures.in_range() {
-        return Err(Refusal::LeavesRange);
-    }
-    Ok(Held {
-        place: held.place,
-        figures,
-    })
+    ending(held, released(held.figures.checked()?, amount))
 }
 
 /// Raises a register's limit by an amount. Refuses (25) figures out of range, and (26) where they
 /// would leave it.
+#[tactic(auto, using(crate::proofs::Signed::signed), unfolding(crate::specs::Blocks::credit_on, crate::specs::Trades::raised_of))]
 pub(crate) fn credit_on(held: Held, amount: Amount) -> Result<Held, Refusal>
     ensures answer { result ≡ credit_on held amount.units }
     ensures placed { IfOk result (λ h. h.place ≡ held.place) }
 {
-    let Figures {
-        limit,
-        blocked,
-        third,
-    } = held.figures;
-    if !held.figures.in_range() {
-        return Err(Refusal::Store(StoreFault::OutOfRange));
-    }
-    let figures = Figures {
-        limit: limit + amount.units as i64,
-        blocked,
-        third,
-    };
-    if !figures.in_range() {
-        return Err(Refusal::LeavesRange);
-    }
-    Ok(Held {
-        place: held.place,
-        figures,
-    })
+    ending(held, credited(held.figures.checked()?, amount))
 }

@@ -1,28 +1,28 @@
 //! Trades.
 
 ghost use Rattle.std.specs.Prelude.{◌≡◌, true, IfOk};
-ghost use Rattle.std.specs.List.{list_all, AllByRecursion};
-ghost use Rattle.registers.specs.Registers.{Bounded, in_range};
+ghost use Rattle.std.specs.List.{list_all};
+ghost use Rattle.registers.specs.Registers.{in_range};
 ghost use Rattle.full.specs.Plans.{Done};
-ghost use Rattle.full.specs.Trades.{four_of, paid_of, raised_of, move_to, settle_of, trade_of, moves_of};
+ghost use Rattle.full.specs.Trades.{four_of, move_to, settle_of, trade_of, moves_of};
 
 use crate::engine::Engine;
 use crate::held::Held;
 use crate::moves::{Four, Move};
 use crate::ordering::put_moves;
-use crate::registers_of::held;
+use crate::registers_of::{credited, held, paid};
 use orders::blocks::{cash_key, holding_key};
 use orders::checks::pair;
 use orders::order::Mode;
 use orders::refusal::Refusal;
 use orders::terms::Deal;
 use registers::amounts::money;
-use registers::fault::StoreFault;
 use registers::ranges::{Amount, Quantity};
 use registers::row::Figures;
 use registers::store::Store;
 
 /// The four registers of a trade with full collateral. Refuses (6) where one is not open.
+#[tactic(auto, unfolding(crate::specs::Trades::four_of))]
 pub(crate) fn four<S: Store>(
     store: &mut S,
     buyer: u32,
@@ -46,32 +46,9 @@ pub(crate) fn four<S: Store>(
 }
 
 fn all_in(figures: [Figures; 4]) -> bool
-    ensures answer { result ≡ list_all in_range figures }
-    ensures bounds { result ≡ true → AllByRecursion Bounded figures }
+    ensures { result ≡ list_all in_range figures }
 {
     figures.iter().all(|f| f.in_range())
-}
-
-fn paid(f: Figures, value: Amount, block: Amount) -> Figures
-    requires { Bounded f }
-    ensures { result ≡ paid_of f value.units block.units }
-{
-    Figures {
-        limit: f.limit - value.units as i64,
-        blocked: f.blocked - block.units as i64,
-        third: f.third,
-    }
-}
-
-fn raised(f: Figures, amount: Amount) -> Figures
-    requires { Bounded f }
-    ensures { result ≡ raised_of f amount.units }
-{
-    Figures {
-        limit: f.limit + amount.units as i64,
-        blocked: f.blocked,
-        third: f.third,
-    }
 }
 
 fn move_to(held: Held, after: Figures) -> Move
@@ -86,6 +63,7 @@ fn move_to(held: Held, after: Figures) -> Move
 
 /// Where the four registers of a trade end. Refuses figures out of range (25), and figures that would
 /// leave it (26), each over all four.
+#[tactic(auto, unfolding(crate::specs::Trades::settle_of))]
 pub(crate) fn settle(
     r: Four,
     quantity: Quantity,
@@ -95,21 +73,13 @@ pub(crate) fn settle(
     ensures answer { result ≡ settle_of r quantity.value value.units block.units }
     ensures moves { IfOk result (λ m. m ≡ moves_of r quantity.value value.units block.units) }
 {
-    if !all_in([
-        r.payer.figures,
-        r.payee.figures,
-        r.taker.figures,
-        r.giver.figures,
-    ]) {
-        return Err(Refusal::Store(StoreFault::OutOfRange));
-    }
     let pieces = Amount {
         units: u64::from(quantity.value),
     };
-    let payer = paid(r.payer.figures, value, block);
-    let payee = raised(r.payee.figures, value);
-    let taker = raised(r.taker.figures, pieces);
-    let giver = paid(r.giver.figures, pieces, pieces);
+    let payer = paid(r.payer.figures.checked()?, value, block);
+    let payee = credited(r.payee.figures.checked()?, value);
+    let taker = credited(r.taker.figures.checked()?, pieces);
+    let giver = paid(r.giver.figures.checked()?, pieces, pieces);
     if !all_in([payer, payee, taker, giver]) {
         return Err(Refusal::LeavesRange);
     }
@@ -127,6 +97,7 @@ impl<S: Store> Engine<S> {
     /// at each order's own price is released. Refuses as `pair` does (5, 12, 11, 13 to 17), then a pair
     /// of orders in partial mode (5), an account whose cash or holding is not open (6), figures out of
     /// range (25) and figures that would leave it (26).
+    #[tactic(auto, unfolding(crate::specs::Trades::trade_of))]
     pub fn trade(&mut self, d: Deal) -> Result<i64, Refusal>
         ensures { Done (trade_of self.old.state d) self.old.state self.new.state result }
     {

@@ -1,9 +1,12 @@
 //! Tests on rows, and the numbers of faults.
 
-ghost use Rattle.std.specs.Prelude.{◌≡◌, true};
+ghost use Rattle.std.specs.Prelude.{◌≡◌, true, if◌then◌else◌, Ok, Err};
+ghost use Rattle.std.specs.Result.{result_map_both};
+ghost use Rattle.registers.specs.declared.fault.StoreFault.TheVariants.{OutOfRange};
 ghost use Rattle.registers.specs.Registers.{bounded, in_range, same_key, fault_number, Bounded, Within};
 
 use crate::fault::StoreFault;
+use crate::in_range::InRange;
 use crate::row::{Figures, Key, Row};
 use seek::Keyed;
 
@@ -29,6 +32,16 @@ impl Figures {
             && is_bounded(self.third)
             && is_bounded(self.limit + self.third)
             && 0 <= self.third
+    }
+
+    /// The figures, known to be in range. Refuses (25) figures that are not.
+    pub fn checked(self) -> Result<InRange, StoreFault>
+        ensures { result_map_both (λ r. r.figures) (λ e. e) result ≡ (if in_range self then Ok self else Err OutOfRange) }
+    {
+        if !self.in_range() {
+            return Err(StoreFault::OutOfRange);
+        }
+        Ok(InRange { figures: self })
     }
 }
 

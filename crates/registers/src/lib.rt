@@ -5,6 +5,7 @@ pub mod amounts;
 pub mod fault;
 pub mod figures;
 pub mod image;
+pub mod in_range;
 pub mod ranges;
 pub mod row;
 pub mod store;

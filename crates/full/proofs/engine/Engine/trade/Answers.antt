@@ -10,22 +10,6 @@ put_moves-requires g c =
     _ _ _ c.in_ok-moves.moves c.in_ok-four.ensures.answer c.in_ok-pair.ensures.apart c.in_ok-four.ensures.kept c.in_ok-moves.ensures.moves in
     record { apart = r.apart; standing = r.standing }
 
-pub returns-in_err-pair : goal.returns-in_err-pair
-unfolding trade_of
-returns-in_err-pair g c = search rules
-
-pub returns-then-ne : goal.returns-then-ne
-unfolding trade_of
-returns-then-ne g c = search rules
-
-pub returns-in_err-four : goal.returns-in_err-four
-unfolding trade_of
-returns-in_err-four g c = search rules
-
-pub returns-in_err-moves : goal.returns-in_err-moves
-unfolding trade_of
-returns-in_err-moves g c = search rules
-
 pub returns : goal.returns
 unfolding trade_of
 returns g c = search rules
