@@ -49,9 +49,9 @@ pub fn run<S: Store>(
 {
     let mut engine = Engine::new(store, reserve);
     let count = calls.len().min(outcomes.len());
+    // by index: of a slice that `iter_mut` lent, a proof knows no element afterwards
     for i in 0..count {
-        let outcome = carry_out(&mut engine, calls[i]);
-        outcomes[i] = outcome;
+        outcomes[i] = carry_out(&mut engine, calls[i]);
     }
     engine
 }
