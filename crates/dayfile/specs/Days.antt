@@ -34,5 +34,5 @@ told (Header fault) s count items = Fault 1 (File fault) 0 ∷ lines_from s coun
 told Records s count items = lines_from s count items
 told (Registers place) s count items = map Register (drop place s.rows)
 
-abbrev pub lines_left : {S : Type 0} {store : Ghosts S} → Day S store → List Line
+abbrev pub lines_left : {S : Type 0} {members : Ghosts S} → Day S members → List Line
 lines_left d = told d.stage d.engine.state d.count (items_left d.records)
