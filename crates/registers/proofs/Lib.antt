@@ -1,3 +1,4 @@
 pub mod Rounding
 pub mod Rows
 pub mod Images
+pub mod Signed

@@ -4,3 +4,4 @@ pub mod Stores
 pub mod Tables
 pub mod Images
 pub mod Bounds
+pub mod Texts

@@ -31,6 +31,7 @@ fn product(quantity: Quantity, price: Price) -> u64
     u64::from(quantity.value) * u64::from(price.value)
 }
 
+#[tactic(auto, unfolding(crate::specs::Amounts::rounded))]
 fn hundredths(product: u64) -> u64
     requires { product ≤ 100000000000000 }
     ensures value { result ≡ rounded 100 product }

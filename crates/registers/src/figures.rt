@@ -13,6 +13,7 @@ use seek::Keyed;
 /// The greatest value of a figure, and with a minus the least.
 pub const MOST: i64 = 1_000_000_000_000_000;
 
+#[tactic(auto, unfolding(crate::specs::Registers::bounded))]
 fn is_bounded(figure: i64) -> bool
     ensures answer { result ≡ bounded figure }
     ensures bounds { result ≡ true → Within figure }

@@ -48,6 +48,7 @@ fn count_of(bytes: &[u8]) -> usize
     }
 }
 
+#[tactic(auto, unfolding(crate::specs::Images::key_at))]
 fn key_at(bytes: &[u8], at: usize) -> Option<Key>
     requires { at + 7 ≤ length bytes.now }
     ensures { result ≡ Some (key_at at bytes.now) }
@@ -59,6 +60,7 @@ fn key_at(bytes: &[u8], at: usize) -> Option<Key>
     })
 }
 
+#[tactic(auto, using(crate::proofs::Signed::signed), unfolding(crate::specs::Images::figures_at))]
 fn figures_at(bytes: &[u8], at: usize) -> Option<Figures>
     requires { at + 24 ≤ length bytes.now }
     ensures { result ≡ Some (figures_at at bytes.now) }
@@ -97,6 +99,7 @@ struct ImageRows<'a> {
 impl Table<Row> for ImageRows<'_> {
     ghost records = { λ s. image_rows s.bytes.now };
 
+    #[tactic(auto, using(crate::proofs::Signed::counted))]
     fn count(&self) -> usize {
         count_of(self.bytes)
     }
@@ -213,6 +216,7 @@ impl Store for ImageStore<'_> {
 
     ghost bounded = { λ s. image_bounded s.bytes.now };
 
+    #[tactic(auto, using(crate::proofs::Signed::counted))]
     fn count(&mut self) -> usize
         ensures answer { result ≡ length (image_rows self.old.bytes.now) }
         ensures bytes { self.new.bytes.now ≡ self.old.bytes.now }

@@ -10,3 +10,4 @@ pub mod ranges;
 pub mod row;
 pub mod store;
 pub mod table;
+pub mod texts;
