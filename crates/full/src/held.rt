@@ -4,7 +4,7 @@ use registers::ranges::Amount;
 use registers::row::Figures;
 
 /// The place of an open register and its figures.
-#[derive(Clone, Copy)]
+#[derive(Clone, Copy, PartialEq, Eq, Debug)]
 pub struct Held {
     pub place: usize,
     pub figures: Figures,
@@ -12,7 +12,7 @@ pub struct Held {
 
 /// What has to cover a block: the limit, less the blocked figure once it is raised by the amount,
 /// leaves the floor.
-#[derive(Clone, Copy)]
+#[derive(Clone, Copy, PartialEq, Eq, Debug)]
 pub struct Cover {
     pub limit: i64,
     pub amount: Amount,

@@ -4,7 +4,7 @@ use crate::held::Held;
 use registers::row::Figures;
 
 /// A register that a call moves: its place, its figures before, and where they end.
-#[derive(Clone, Copy)]
+#[derive(Clone, Copy, PartialEq, Eq, Debug)]
 pub struct Move {
     pub place: usize,
     pub before: Figures,
@@ -13,7 +13,7 @@ pub struct Move {
 
 /// The registers of a trade with full collateral: the buyer's and the seller's cash, and the buyer's
 /// and the seller's holding.
-#[derive(Clone, Copy)]
+#[derive(Clone, Copy, PartialEq, Eq, Debug)]
 pub struct Four {
     pub payer: Held,
     pub payee: Held,

@@ -3,7 +3,7 @@
 use orders::terms::{Announcement, Deal, Opening};
 
 /// One call of the engine with its arguments.
-#[derive(Clone, Copy)]
+#[derive(Clone, Copy, PartialEq, Eq, Debug)]
 pub enum Call {
     Admit {
         security: u16,

@@ -18,7 +18,7 @@ pub enum Mode {
 }
 
 /// A live order. The ratio is that of its security when it was announced.
-#[derive(Clone, Copy)]
+#[derive(Clone, Copy, PartialEq, Eq, Debug)]
 pub struct Order {
     pub number: u32,
     pub side: Side,
@@ -32,7 +32,7 @@ pub struct Order {
 
 /// The order book: at most 256 live orders, each in a place of the table, and the number of the
 /// order that was announced last.
-#[derive(Clone, Copy)]
+#[derive(Clone, Copy, PartialEq, Eq, Debug)]
 pub struct Book {
     pub orders: [Option<Order>; 256],
     pub last: u32,

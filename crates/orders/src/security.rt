@@ -6,7 +6,7 @@ use arrayvec::ArrayVec;
 use registers::ranges::Ratio;
 
 /// An admitted security and its market risk ratio.
-#[derive(Clone, Copy)]
+#[derive(Clone, Copy, PartialEq, Eq, Debug)]
 pub struct Security {
     pub number: u16,
     pub ratio: Ratio,
@@ -25,7 +25,7 @@ impl Default for Security {
 }
 
 /// The admitted securities, at most 64, in the order of their admission.
-#[derive(Clone, Drop)]
+#[derive(Clone, PartialEq, Eq, Debug, Drop)]
 pub struct Securities {
     pub list: ArrayVec<Security, 64>,
 }

@@ -36,7 +36,7 @@ pub struct Opening {
 }
 
 /// An announcement's numbers in their ranges.
-#[derive(Clone, Copy)]
+#[derive(Clone, Copy, PartialEq, Eq, Debug)]
 pub struct Terms {
     pub mode: Mode,
     pub quantity: Quantity,
@@ -44,7 +44,7 @@ pub struct Terms {
 }
 
 /// A trade's numbers in their ranges.
-#[derive(Clone, Copy)]
+#[derive(Clone, Copy, PartialEq, Eq, Debug)]
 pub struct Bargain {
     pub quantity: Quantity,
     pub price: Price,
