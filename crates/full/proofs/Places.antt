@@ -5,6 +5,7 @@ use Rattle.std.specs.List.{slice_get, AllByRecursion, AllPairs}
 use Rattle.std.specs.Option.{option_map}
 use Rattle.std.proofs.lemmas.List.Elements.{All-from_recursion}
 use Rattle.std.proofs.lemmas.List.Kept.{AllPairs-cons}
+use Rattle.seek.proofs.Cases.{no_case}
 use Rattle.seek.specs.Place.{place_of, on_by}
 use Rattle.registers.specs.declared.row.Key.{Key}
 use Rattle.registers.specs.declared.row.Row.{Row}
@@ -19,9 +20,6 @@ use Rattle.full.specs.Blocks.{held_in, held_from, held_at}
 use Rattle.orders.specs.Blocks.{cash_key, holding_key}
 use Rattle.full.specs.Trades.{four_of, moves_of, Apart, Standing}
 use Rattle.full.specs.Blocks.{FiguresAt}
-
-no_case : {X : Type 0} → ◌≡◌ {A = ℕ} 0 1 → X
-no_case z = absurd (omega arith)
 
 -- what a search found passes the test
 module _ {X : Type 0} (p : X → Bool) where

@@ -3,6 +3,7 @@ use Rattle.std.proofs.Common.{◌≡◌, ℕ, suc, ◌+◌, ◌-◌, ◌<◌, Bo
 use Rattle.std.specs.List.{slice_get}
 use Rattle.std.specs.Option.{option_map}
 use Rattle.std.proofs.lemmas.Bool.{and_parts, ltb-true, leb-true}
+use Rattle.seek.proofs.Cases.{no_case}
 use Rattle.seek.specs.Place.{place_of, on_by}
 use Rattle.registers.specs.declared.row.Key.{Key}
 use Rattle.registers.specs.declared.row.Row.{Row}
@@ -42,7 +43,7 @@ ratio_by n a ss k false e f = f (back (place_of (λ (x : Admitted). eqb x.number
     back (Some i) g = ap (λ (j : ℕ). option_map (λ (x : Admitted). x.ratio) (slice_get (a ∷ ss) j)) (let z : suc i ≡ 1 + i = omega arith in z) ∙ g
 
 pub ratio_noted_lem : (n : ℕ) (ss : List Admitted) (k : ℕ) → admitted_as ss n ≡ Some k → ratio_noted n ss ≡ k
-ratio_noted_lem n [] k e = absurd (let z : ◌≡◌ {A = ℕ} 0 1 = cc in omega arith)
+ratio_noted_lem n [] k e = no_case (cc)
 ratio_noted_lem n (a ∷ ss) k e = ratio_by n a ss k (eqb a.number n) e (ratio_noted_lem n ss k)
 
 -- what a ready order is
@@ -64,14 +65,14 @@ terms_by : (a : Announcement) (t : TermsOf) (m : Mode) (n c s q p : Bool) → (q
 terms_by a t m true true true true true l e f =
     let g : ◌≡◌ {A = TermsOf} (record { mode = m; quantity = a.quantity; price = a.price }) t = cc in
     record { mode = e ∙ ap (λ (x : TermsOf). Some x.mode) g; quantity = sym (ap (λ (x : TermsOf). x.quantity) g); price = sym (ap (λ (x : TermsOf). x.price) g); least = l refl }
-terms_by a t m true true true true false l e f = absurd (let z : ◌≡◌ {A = ℕ} 0 1 = cc in omega arith)
-terms_by a t m true true true false p l e f = absurd (let z : ◌≡◌ {A = ℕ} 0 1 = cc in omega arith)
-terms_by a t m true true false q p l e f = absurd (let z : ◌≡◌ {A = ℕ} 0 1 = cc in omega arith)
-terms_by a t m true false s q p l e f = absurd (let z : ◌≡◌ {A = ℕ} 0 1 = cc in omega arith)
-terms_by a t m false c s q p l e f = absurd (let z : ◌≡◌ {A = ℕ} 0 1 = cc in omega arith)
+terms_by a t m true true true true false l e f = no_case (cc)
+terms_by a t m true true true false p l e f = no_case (cc)
+terms_by a t m true true false q p l e f = no_case (cc)
+terms_by a t m true false s q p l e f = no_case (cc)
+terms_by a t m false c s q p l e f = no_case (cc)
 
 terms_mode : (a : Announcement) (t : TermsOf) (o : Option Mode) → mode_of a.mode ≡ o → terms_in o a ≡ Some t → InRange a t
-terms_mode a t None e f = absurd (let z : ◌≡◌ {A = ℕ} 0 1 = cc in omega arith)
+terms_mode a t None e f = no_case (cc)
 terms_mode a t (Some m) e f =
     terms_by a t m (number_ok a.number) (code_ok a.account) (security_ok a.security) (between 1 1000000 a.quantity) (between 1 100000000 a.price)
     (λ g. let x = and_parts (leb 1 a.quantity) (leb a.quantity 1000000) g in omega (arith, leb-true 1 a.quantity x.0)) e f
@@ -118,8 +119,8 @@ module _ (ss : List Admitted) (os : List (Option Live)) (last : ℕ) (a : Announ
 cover_by : (rows : List Row) (c d : Held) (m : Mode) (sd : Side) (ac se : ℕ) → m ≡ Full → Open rows (cash_key ac) c → Open rows (holding_key ac se) d → Open rows (block_key m sd ac se) (cond (eqb (block_key m sd ac se).kind 1) c d)
 cover_by rows c d Full Buy ac se e x y = x
 cover_by rows c d Full Sell ac se e x y = y
-cover_by rows c d Partial Buy ac se e x y = absurd (let z : ◌≡◌ {A = ℕ} 0 1 = cc in omega arith)
-cover_by rows c d Partial Sell ac se e x y = absurd (let z : ◌≡◌ {A = ℕ} 0 1 = cc in omega arith)
+cover_by rows c d Partial Buy ac se e x y = no_case (cc)
+cover_by rows c d Partial Sell ac se e x y = no_case (cc)
 
 full_mode : (n : ℕ) → eqb n 1 ≡ true → unwrap_or (mode_of n) Full ≡ Full
 full_mode n e = rw e

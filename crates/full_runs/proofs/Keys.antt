@@ -3,6 +3,7 @@ use Rattle.std.proofs.Common.{◌≡◌, ℕ, ◌+◌, Bool, true, false, eqb, L
 use Rattle.std.specs.List.{AllByRecursion}
 use Rattle.std.proofs.lemmas.Bool.{cond_both}
 use Rattle.std.proofs.lemmas.Bool.Decides.{nat_tests}
+use Rattle.seek.proofs.Cases.{no_case}
 use Rattle.full_runs.specs.Keyed.{at, put, total}
 
 module _ {X : Type 0} (key : X → ℕ) where
@@ -31,7 +32,7 @@ module _ {X : Type 0} (key : X → ℕ) where
   all_put P y (z ∷ zs) p h = let i = all_put P y zs p h.1 in cond_both (eqb (key y) (key z)) (y ∷ zs) (z ∷ put key y zs) (AllByRecursion P) (λ _. (p, h.1)) (λ _. (h.0, i))
 
   pub all_at : (P : X → Type 0) (n : ℕ) (xs : List X) (x : X) → AllByRecursion P xs → at key n xs ≡ Some x → P x
-  all_at P n [] x h e = absurd (let z : ◌≡◌ {A = ℕ} 0 1 = cc in omega arith)
+  all_at P n [] x h e = no_case (cc)
   all_at P n (z ∷ zs) x h e = let i = all_at P n zs x h.1 in
       by_cond (eqb n (key z)) (λ t. subst P (some_same z x (cc)) h.0) (λ t. i (cc))
     where
@@ -43,7 +44,7 @@ module _ {X : Type 0} (key : X → ℕ) where
       some_same a b e = cc
 
   pub at_key : (n : ℕ) (xs : List X) (x : X) → at key n xs ≡ Some x → key x ≡ n
-  at_key n [] x e = absurd (let z : ◌≡◌ {A = ℕ} 0 1 = cc in omega arith)
+  at_key n [] x e = no_case (cc)
   at_key n (z ∷ zs) x e = let h = at_key n zs x in grind (arith, nat_tests, h)
 
 -- a sum over a list with one more, and over two lists

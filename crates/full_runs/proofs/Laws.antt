@@ -5,6 +5,7 @@ use Rattle.std.specs.List.{slice_get}
 use Rattle.std.specs.Int.{int_min}
 use Rattle.std.proofs.lemmas.Int.{ints}
 use Rattle.std.proofs.lemmas.Bool.{ltb-false}
+use Rattle.seek.proofs.Cases.{no_case}
 use Rattle.registers.specs.declared.row.Row.{Row}
 use Rattle.orders.specs.declared.refusal.Refusal.{Refusal}
 use Rattle.orders.specs.State.{Live}
@@ -64,7 +65,7 @@ begin_keeps rows room reserve e =
     })
   where
     no_row : {X : Type 0} (i : ℕ) (r : Row) → slice_get [] i ≡ Some r → X
-    no_row i r f = absurd (let z : ◌≡◌ {A = ℕ} 0 1 = cc in omega arith)
+    no_row i r f = no_case (cc)
 
 -- the law
 slack_most : (b : Bool) (n : ℕ) → cond b 0 n ≤ n

@@ -16,3 +16,4 @@ pub mod Steps
 pub mod Trades
 pub mod Units
 pub mod Withdraws
+pub mod Passes

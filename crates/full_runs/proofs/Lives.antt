@@ -3,6 +3,7 @@ use Rattle.std.proofs.Common.{◌≡◌, ℕ, ◌+◌, ◌<◌, ◌≤◌, Bool,
 use Rattle.std.specs.List.{AllByRecursion}
 use Rattle.std.proofs.lemmas.Bool.{cases_eq, eqb-true, eq-eqb, ne_eqb, lt-ltb}
 use Rattle.std.proofs.ByRecursion.{All-push, All-weaker}
+use Rattle.seek.proofs.Cases.{no_case}
 use Rattle.orders.specs.State.{Live, has_number, resting}
 use Rattle.full_runs.specs.Keyed.{at, put}
 use Rattle.full_runs.specs.Tally.{Note, number, rest_of, standing}
@@ -27,15 +28,15 @@ not_other m n y false e ne = refl
 few : (b c d : Bool) (p q : ℕ) → q + cond b 1 0 ≡ p + cond c 1 0 → b ≡ true → p ≤ 1 → q ≤ 1
 few true true d p q e f h = omega arith
 few true false d p q e f h = omega arith
-few false c d p q e f h = absurd (let z : ◌≡◌ {A = ℕ} 0 1 = cc in omega arith)
+few false c d p q e f h = no_case (cc)
 
 same_few : (b c : Bool) (p q : ℕ) → q + cond b 1 0 ≡ p + cond c 1 0 → b ≡ false → c ≡ false → p ≤ 1 → q ≤ 1
-same_few true c p q e f g h = absurd (let z : ◌≡◌ {A = ℕ} 0 1 = cc in omega arith)
-same_few false true p q e f g h = absurd (let z : ◌≡◌ {A = ℕ} 0 1 = cc in omega arith)
+same_few true c p q e f g h = no_case (cc)
+same_few false true p q e f g h = no_case (cc)
 same_few false false p q e f g h = omega arith
 
 new_few : (b c : Bool) (p q : ℕ) → q + cond b 1 0 ≡ p + cond c 1 0 → b ≡ false → p ≡ 0 → q ≤ 1
-new_few true c p q e f g = absurd (let z : ◌≡◌ {A = ℕ} 0 1 = cc in omega arith)
+new_few true c p q e f g = no_case (cc)
 new_few false true p q e f g = omega arith
 new_few false false p q e f g = omega arith
 

@@ -16,6 +16,7 @@ use Rattle.full_runs.specs.Tally.{Opened, Note, owed, times_on}
 use Rattle.full_runs.specs.Law.{FairIn, Books, base_of, slack_of}
 use Rattle.full_runs.proofs.Books.{books_change}
 use Rattle.full_runs.proofs.Fairness.{fair_raised, fair_block, fair_freed}
+use Rattle.full_runs.proofs.Passes.{passed, of_ok}
 use Rattle.full_runs.proofs.Rows.{key_same}
 use Rattle.full_runs.proofs.Steps.{Open}
 
@@ -26,9 +27,10 @@ pub record Passed {X : Type 0} (a b : Bool) (x y : X) : Type 0 where
   pub same : x ≡ y
 
 pub two_checks : {X : Type 0} (a b : Bool) (e f : Refusal) (x y : X) → demand a e (demand b f (Ok x)) ≡ Ok y → Passed a b x y
-two_checks true true e f x y h = record { first = refl; second = refl; same = cc }
-two_checks true false e f x y h = absurd (let z : ◌≡◌ {A = ℕ} 0 1 = cc in omega arith)
-two_checks false b e f x y h = absurd (let z : ◌≡◌ {A = ℕ} 0 1 = cc in omega arith)
+two_checks a b e f x y h =
+    let p = passed a e _ y h in
+    let q = passed b f _ y p.1 in
+    record { first = p.0; second = q.0; same = of_ok q.1 }
 
 pub credited : (h c : Held) (m : ℕ) → credit_on h m ≡ Ok c → with_figures_of h (with_limit h.figures (h.figures.limit +ℤ pos m)) ≡ c
 unfolding credit_on

@@ -1,5 +1,6 @@
 -- The order book's places, looked up by an order's number, after one place changes.
 use Rattle.std.proofs.Common.{◌≡◌, ℕ, zero, suc, ◌+◌, ◌<◌, ◌≤◌, Bool, true, false, cond, List, [], ◌∷◌, length, get_or, set, Some, None, Option, refl, ap, arith}
+use Rattle.seek.proofs.Cases.{no_case}
 use Rattle.seek.specs.Place.{place_of, on_by}
 use Rattle.orders.specs.State.{Live, has_number, is_free, place_of_order}
 use Rattle.full_runs.specs.Law.{slot_for, places_of}
@@ -18,8 +19,8 @@ module _ (n : ℕ) where
   places_none (x ∷ os) e = none_by x (slot_for n os) (places_of n os) (has_number n x) e (places_none os)
 
   some_by : (x rest : Option Live) (places : ℕ) (b : Bool) → has_number n x ≡ b → cond b x rest ≡ None → (rest ≡ None → places ≡ 0) → one b + places ≡ 0
-  some_by None rest places true e f g = absurd (let z : ◌≡◌ {A = ℕ} 0 1 = cc in omega arith)
-  some_by (Some o) rest places true e f g = absurd (let z : ◌≡◌ {A = ℕ} 0 1 = cc in omega arith)
+  some_by None rest places true e f g = no_case (cc)
+  some_by (Some o) rest places true e f g = no_case (cc)
   some_by x rest places false e f g = omega (arith, g f)
 
   pub none_places : (os : List (Option Live)) → slot_for n os ≡ None → places_of n os ≡ 0
@@ -28,7 +29,7 @@ module _ (n : ℕ) where
 
   -- what stands at a place counts
   pub stands_counts : (os : List (Option Live)) (i : ℕ) → has_number n (get_or os i None) ≡ true → 1 ≤ places_of n os
-  stands_counts [] i e = absurd (let z : ◌≡◌ {A = ℕ} 0 1 = cc in omega arith)
+  stands_counts [] i e = no_case (cc)
   stands_counts (x ∷ os) zero e = let f : one (has_number n x) ≡ 1 = ap one e in omega arith
   stands_counts (x ∷ os) (suc i) e = omega (arith, stands_counts os i e)
 
@@ -50,7 +51,7 @@ module _ (n : ℕ) where
 
   -- the place of the number changes
   pub slot_set : (os : List (Option Live)) (i : ℕ) (x : Option Live) → places_of n os ≤ 1 → has_number n (get_or os i None) ≡ true → slot_for n (set os i x) ≡ cond (has_number n x) x None
-  slot_set [] i x once e = absurd (let z : ◌≡◌ {A = ℕ} 0 1 = cc in omega arith)
+  slot_set [] i x once e = no_case (cc)
   slot_set (y ∷ os) zero x once e =
       let f : one (has_number n y) ≡ 1 = ap one e in
       ap (λ (z : Option Live). cond (has_number n x) x z) (places_none os (omega arith))
@@ -77,19 +78,19 @@ module _ (p : Option Live → Bool) where
   at_by x os i false e f rest = more (place_of p os) refl f
     where
       more : (o : Option ℕ) → place_of p os ≡ o → on_by 1 o ≡ Some i → (i < length (x ∷ os)) × (p (get_or (x ∷ os) i None) ≡ true)
-      more None g h = absurd (let z : ◌≡◌ {A = ℕ} 0 1 = cc in omega arith)
+      more None g h = no_case (cc)
       more (Some j) g h =
           let r = rest j g in
           let s : suc j ≡ i = let k : 1 + j ≡ i = cc in omega arith in
           rw (← s) (omega (arith, r.0), r.1)
 
   pub search_at : (os : List (Option Live)) (i : ℕ) → place_of p os ≡ Some i → (i < length os) × (p (get_or os i None) ≡ true)
-  search_at [] i e = absurd (let z : ◌≡◌ {A = ℕ} 0 1 = cc in omega arith)
+  search_at [] i e = no_case (cc)
   search_at (x ∷ os) i e = at_by x os i (p x) refl e (search_at os)
 
 pub free_none : (x : Option Live) → is_free x ≡ true → x ≡ None
 free_none None e = refl
-free_none (Some o) e = absurd (let z : ◌≡◌ {A = ℕ} 0 1 = cc in omega arith)
+free_none (Some o) e = no_case (cc)
 
 -- the place that a search by number found is the one that the number stands at
 module _ (n : ℕ) where
@@ -98,11 +99,11 @@ module _ (n : ℕ) where
   slot_by x os i false e f rest = more (place_of (has_number n) os) refl f
     where
       more : (o : Option ℕ) → place_of (has_number n) os ≡ o → on_by 1 o ≡ Some i → slot_for n os ≡ get_or (x ∷ os) i None
-      more None g h = absurd (let z : ◌≡◌ {A = ℕ} 0 1 = cc in omega arith)
+      more None g h = no_case (cc)
       more (Some j) g h =
           let s : suc j ≡ i = let k : 1 + j ≡ i = cc in omega arith in
           rw (← s) (rest j g)
 
   pub slot_at : (os : List (Option Live)) (i : ℕ) → place_of_order n os ≡ Some i → slot_for n os ≡ get_or os i None
-  slot_at [] i e = absurd (let z : ◌≡◌ {A = ℕ} 0 1 = cc in omega arith)
+  slot_at [] i e = no_case (cc)
   slot_at (x ∷ os) i e = slot_by x os i (has_number n x) refl e (slot_at os)

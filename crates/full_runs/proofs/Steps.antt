@@ -2,6 +2,7 @@
 use Rattle.std.proofs.Common.{◌≡◌, ℕ, ◌<◌, Bool, true, false, cond, ltb, List, length, get_or, Some, None, Ok, Option, sym, refl, ap, ◌∙◌, arith}
 use Rattle.std.proofs.lemmas.Bool.{ltb-true}
 use Rattle.std.specs.List.{slice_get}
+use Rattle.seek.proofs.Cases.{no_case}
 use Rattle.registers.specs.declared.row.Key.{Key}
 use Rattle.registers.specs.declared.row.Row.{Row}
 use Rattle.orders.specs.State.{Live, has_number, place_of_order}
@@ -36,7 +37,7 @@ pub record Place (os : List (Option Live)) (n : ℕ) (f : FoundOf) : Type 0 wher
 
 module _ (os : List (Option Live)) (n : ℕ) (f : FoundOf) where
   place_in : (i : ℕ) (x : Option Live) → place_of_order n os ≡ Some i → get_or os i None ≡ x → found_in i x ≡ Ok f → Place os n f
-  place_in i None p e g = absurd (let z : ◌≡◌ {A = ℕ} 0 1 = cc in omega arith)
+  place_in i None p e g = no_case (cc)
   place_in i (Some o) p e g =
       let s : ◌≡◌ {A = FoundOf} (record { place = i; order = o }) f = cc in
       let a = search_at (has_number n) os i p in
@@ -47,7 +48,7 @@ module _ (os : List (Option Live)) (n : ℕ) (f : FoundOf) where
       record { within = omega (arith, a.0); holds = h; bears = b; slot = slot_at n os i p ∙ e ∙ ap Some po }
 
   place_from : (o : Option ℕ) → place_of_order n os ≡ o → found_from os o ≡ Ok f → Place os n f
-  place_from None p g = absurd (let z : ◌≡◌ {A = ℕ} 0 1 = cc in omega arith)
+  place_from None p g = no_case (cc)
   place_from (Some i) p g = place_in i (get_or os i None) p refl g
 
   pub found_place : found_of os n ≡ Ok f → Place os n f
@@ -64,10 +65,10 @@ pub record Noted (notes : List Note) (n : ℕ) (o : Live) : Type 0 where
 module _ (notes : List Note) (n : ℕ) (o : Live) where
   by_lives : (x : Note) (b : Bool) → ltb 0 (rest_of x) ≡ b → at number n notes ≡ Some x → cond b (Some (standing x)) None ≡ Some o → Noted notes n o
   by_lives x true t e f = record { note = x; at_n = e; order = sym (let s : standing x ≡ o = cc in s); rests = ltb-true 0 (rest_of x) t }
-  by_lives x false t e f = absurd (let z : ◌≡◌ {A = ℕ} 0 1 = cc in omega arith)
+  by_lives x false t e f = no_case (cc)
 
   by_note : (m : Option Note) → at number n notes ≡ m → lives m ≡ Some o → Noted notes n o
-  by_note None e f = absurd (let z : ◌≡◌ {A = ℕ} 0 1 = cc in omega arith)
+  by_note None e f = no_case (cc)
   by_note (Some x) e f = by_lives x (ltb 0 (rest_of x)) refl e f
 
   pub noted_order : (os : List (Option Live)) (last : ℕ) → Orders notes os last → slot_for n os ≡ Some o → Noted notes n o

@@ -23,7 +23,9 @@ use Rattle.orders.specs.Checks.{FoundOf, found_of, PairOf, matched_of, pair_of, 
 use Rattle.full_runs.specs.Keyed.{at, put}
 use Rattle.full_runs.specs.Tally.{Note, number, rest_of, standing, with_traded, register_of, time_of, owed, times_on}
 use Rattle.full_runs.specs.Law.{Whole, lives, slack_of}
+use Rattle.seek.proofs.Cases.{no_case}
 use Rattle.full_runs.proofs.Keys.{at_key}
+use Rattle.full_runs.proofs.Passes.{passed, of_ok}
 use Rattle.full_runs.proofs.Rows.{key_same, put_other}
 use Rattle.full_runs.proofs.Steps.{Open}
 use Rattle.full_runs.proofs.Units.{Parts, left_over, units_parts}
@@ -100,26 +102,6 @@ pub record Matched (os : List (Option Live)) (last : ℕ) (d : Deal) (p : PairOf
   pub price : p.price ≤ p.buy.price
   pub quantity : p.quantity ≡ d.quantity
 
-pub no_case : {X : Type 0} → ◌≡◌ {A = ℕ} 0 1 → X
-no_case z = absurd (omega arith)
-
--- what passes five checks
-pub record PassedFive {X : Type 0} (a b c d e : Bool) (x y : X) : Type 0 where
-  pub first : a ≡ true
-  pub second : b ≡ true
-  pub third : c ≡ true
-  pub fourth : d ≡ true
-  pub fifth : e ≡ true
-  pub same : x ≡ y
-
-five_checks : {X : Type 0} (a b c d e : Bool) (f g h i j : Refusal) (x y : X) → demand a f (demand b g (demand c h (demand d i (demand e j (Ok x))))) ≡ Ok y → PassedFive a b c d e x y
-five_checks true true true true true f g h i j x y z = record { first = refl; second = refl; third = refl; fourth = refl; fifth = refl; same = cc }
-five_checks true true true true false f g h i j x y z = no_case (cc)
-five_checks true true true false e f g h i j x y z = no_case (cc)
-five_checks true true false d e f g h i j x y z = no_case (cc)
-five_checks true false c d e f g h i j x y z = no_case (cc)
-five_checks false b c d e f g h i j x y z = no_case (cc)
-
 bargain_by : (d : Deal) (b : BargainOf) (c : Bool) → cond c (Some (record { quantity = d.quantity; price = d.price })) None ≡ Some b → b.quantity ≡ d.quantity
 bargain_by d b true e = let s : ◌≡◌ {A = BargainOf} (record { quantity = d.quantity; price = d.price }) b = cc in sym (ap (λ (x : BargainOf). x.quantity) s)
 bargain_by d b false e = no_case (cc)
@@ -136,12 +118,16 @@ module _ (os : List (Option Live)) (last : ℕ) (d : Deal) (p : PairOf) where
   matched_pair : (b : BargainOf) (x y : FoundOf) → b.quantity ≡ d.quantity → found_of os d.buy ≡ Ok x → found_of os d.sell ≡ Ok y → matched_of (record { buy_place = x.place; sell_place = y.place; buy = x.order; sell = y.order; quantity = b.quantity; price = b.price }) ≡ Ok p → Matched os last d p
   unfolding matched_of
   matched_pair b x y bq fx fy e =
-      let c : PassedFive (is_buy x.order.side && not (is_buy y.order.side)) (eqb x.order.security y.order.security && same_mode x.order.mode y.order.mode) (not (eqb x.order.account y.order.account)) (leb b.quantity x.order.rest && leb b.quantity y.order.rest) (leb b.price x.order.price && leb y.order.price b.price) (record { buy_place = x.place; sell_place = y.place; buy = x.order; sell = y.order; quantity = b.quantity; price = b.price }) p = five_checks _ _ _ _ _ _ _ _ _ _ _ _ e in
-      let c1 = and_parts _ _ c.first in
-      let c2 = and_parts _ _ c.second in
-      let c4 = and_parts _ _ c.fourth in
-      let c5 = and_parts _ _ c.fifth in
-      subst (Matched os last d) c.same
+      let sides = passed (is_buy x.order.side && not (is_buy y.order.side)) _ _ p e in
+      let kinds = passed (eqb x.order.security y.order.security && same_mode x.order.mode y.order.mode) _ _ p sides.1 in
+      let accounts = passed (not (eqb x.order.account y.order.account)) _ _ p kinds.1 in
+      let rests = passed (leb b.quantity x.order.rest && leb b.quantity y.order.rest) _ _ p accounts.1 in
+      let prices = passed (leb b.price x.order.price && leb y.order.price b.price) _ _ p rests.1 in
+      let c1 = and_parts _ _ sides.0 in
+      let c2 = and_parts _ _ kinds.0 in
+      let c4 = and_parts _ _ rests.0 in
+      let c5 = and_parts _ _ prices.0 in
+      subst (Matched os last d) (of_ok prices.1)
       (record {
         buy_found = fx;
         sell_found = fy;
@@ -149,7 +135,7 @@ module _ (os : List (Option Live)) (last : ℕ) (d : Deal) (p : PairOf) where
         sells = not_true (is_buy y.order.side) c1.1;
         same_mode_lem = c2.1;
         security = eqb-true x.order.security y.order.security c2.0;
-        accounts = eqb-false x.order.account y.order.account (not_true (eqb x.order.account y.order.account) c.third);
+        accounts = eqb-false x.order.account y.order.account (not_true (eqb x.order.account y.order.account) accounts.0);
         buy_rest = leb-true b.quantity x.order.rest c4.0;
         sell_rest = leb-true b.quantity y.order.rest c4.1;
         price = leb-true b.price x.order.price c5.0;

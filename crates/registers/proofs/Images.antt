@@ -18,8 +18,8 @@ use Rattle.registers.specs.Bounds.{length-image_rows, room_small}
 use Rattle.registers.specs.Images.{marked, room_of, count_of, key_at, figures_at, row_at, rows_from, image_rows, key_bytes, figure_bytes, row_bytes, row_place, put_bytes, add_bytes}
 
 -- keys, figures and rows are their parts
-same_key_lem : {a b c a' b' c' : ℕ} → a ≡ a' → b ≡ b' → c ≡ c' → ◌≡◌ {A = Key} (record { kind = a; code = b; security = c }) (record { kind = a'; code = b'; security = c' })
-same_key_lem p q r = cc
+pub key_of_parts : {a b c a' b' c' : ℕ} → a ≡ a' → b ≡ b' → c ≡ c' → ◌≡◌ {A = Key} (record { kind = a; code = b; security = c }) (record { kind = a'; code = b'; security = c' })
+key_of_parts p q r = cc
 
 same_figures : {a b c a' b' c' : ℤ} → a ≡ a' → b ≡ b' → c ≡ c' → ◌≡◌ {A = Figures} (record { limit = a; blocked = b; third = c }) (record { limit = a'; blocked = b'; third = c' })
 same_figures p q r = cc
@@ -77,7 +77,7 @@ key_written at s k fits h =
     let x : part 1 at (spliced 7 at (key_bytes k) s) ≡ a = ap (λ (n : ℕ). part 1 n (spliced 7 at (key_bytes k) s)) (sym z) ∙ part_inside 7 at 1 0 (key_bytes k) s h l (omega arith) ∙ first_part a b c 1 4 2 refl refl refl in
     let y : part 4 (at + 1) (spliced 7 at (key_bytes k) s) ≡ b = part_inside 7 at 4 1 (key_bytes k) s h l (omega arith) ∙ second_part a b c 1 4 2 refl refl refl in
     let w : part 2 (at + 5) (spliced 7 at (key_bytes k) s) ≡ c = part_inside 7 at 2 5 (key_bytes k) s h l (omega arith) ∙ third_part a b c 1 4 2 refl refl refl in
-    same_key_lem (ap be x ∙ be-bytes_of 1 k.kind fits.kind) (ap be y ∙ be-bytes_of 4 k.code fits.code) (ap be w ∙ be-bytes_of 2 k.security fits.security)
+    key_of_parts (ap be x ∙ be-bytes_of 1 k.kind fits.kind) (ap be y ∙ be-bytes_of 4 k.code fits.code) (ap be w ∙ be-bytes_of 2 k.security fits.security)
 
 pub figures_written : (at : ℕ) (s : List ℕ) (f : Figures) → FiguresFit f → 24 + at ≤ length s → figures_at at (spliced 24 at (figure_bytes f) s) ≡ f
 unfolding figures_at figure_bytes
@@ -104,7 +104,7 @@ module _ (k b : ℕ) (ys s : List ℕ) (fits : k + b ≤ length s) (len : length
 
   pub key_apart : (at : ℕ) → (7 + at ≤ b) ⊎ (k + b ≤ at) → key_at at (spliced k b ys s) ≡ key_at at s
   unfolding key_at
-  key_apart at h = same_key_lem (ap be (start_apart 7 at 1 (omega arith) h)) (ap be (within_apart 7 at 4 1 (omega arith) h)) (ap be (within_apart 7 at 2 5 (omega arith) h))
+  key_apart at h = key_of_parts (ap be (start_apart 7 at 1 (omega arith) h)) (ap be (within_apart 7 at 4 1 (omega arith) h)) (ap be (within_apart 7 at 2 5 (omega arith) h))
 
   pub figures_apart : (at : ℕ) → (24 + at ≤ b) ⊎ (k + b ≤ at) → figures_at at (spliced k b ys s) ≡ figures_at at s
   unfolding figures_at

@@ -2,10 +2,8 @@
 use Rattle.std.proofs.Common.{◌≡◌, ℕ, zero, suc, ◌+◌, ◌<◌, ◌≤◌, Bool, true, false, cond, List, [], ◌∷◌, length, Some, None, Option, sym, refl, ap, ◌∙◌, arith}
 use Rattle.std.specs.List.{slice_get, position_from}
 use Rattle.std.specs.Option.{MatchOption, IfSome}
+use Rattle.seek.proofs.Cases.{no_case}
 use Rattle.seek.specs.Place.{place_of, on_by, passes, BearsAt}
-
-no_case : {X : Type 0} → false ≡ true → X
-no_case e = let z : ◌≡◌ {A = ℕ} 0 1 = cc in absurd (omega arith)
 
 on_by_one : (i : ℕ) (o : Option ℕ) → on_by (i + 1) o ≡ on_by i (on_by 1 o)
 on_by_one i None = refl
@@ -30,7 +28,7 @@ module _ {X : Type 0} (p : X → Bool) where
 
   -- a place that passes, and none before it does
   first : (xs : List X) (i : ℕ) → passes p (slice_get xs i) ≡ true → ((k : ℕ) → k < i → passes p (slice_get xs k) ≡ false) → place_of p xs ≡ Some i
-  first [] i t f = no_case t
+  first [] i t f = no_case (cc)
   first (x ∷ xs) zero t f = ap (λ (b : Bool). cond b (Some 0) (on_by 1 (place_of p xs))) t
   first (x ∷ xs) (suc i) t f =
       let e : 1 + i ≡ suc i = omega arith in
@@ -46,7 +44,7 @@ module _ {X : Type 0} (p : X → Bool) where
 
   -- the record at a place that passes
   bears : (xs : List X) (i : ℕ) → passes p (slice_get xs i) ≡ true → BearsAt p xs i
-  bears [] i t d = no_case t
+  bears [] i t d = no_case (cc)
   bears (x ∷ xs) zero t d = t
   bears (x ∷ xs) (suc i) t d = bears xs i t d
 
