@@ -51,7 +51,8 @@ pub fn run<S: Store>(
     let count = calls.len().min(outcomes.len());
     // by index: of a slice that `iter_mut` lent, a proof knows no element afterwards
     for i in 0..count {
-        outcomes[i] = carry_out(&mut engine, calls[i]);
+        let outcome = carry_out(&mut engine, calls[i]);
+        outcomes[i] = outcome;
     }
     engine
 }

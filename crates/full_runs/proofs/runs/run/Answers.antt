@@ -8,8 +8,8 @@ loop-i-init g c = told_none _ _ _
 
 pub loop-i-preserved : goal.loop-i-preserved
 loop-i-preserved g c =
-    told_more c.new-engine.result.state c.args.calls.now c.args.outcomes.now c.loop-i.i c.loop-i.engine.state c.carry_out.new.engine.state c.loop-i.outcomes
-    _ c.carry_out.result (omega arith) (omega arith) c.carry_out.ensures.answer c.carry_out.ensures.left c.loop-i.invariant
+    told_more c.new-engine.result.state c.args.calls.now c.args.outcomes.now c.loop-i.i c.loop-i.engine.state c.carry_out-outcome.new.engine.state c.loop-i.outcomes
+    _ c.carry_out-outcome.result (omega arith) (omega arith) c.carry_out-outcome.ensures.answer c.carry_out-outcome.ensures.left c.loop-i.invariant
 
 pub returns : goal.returns
 returns g c =
