@@ -11,10 +11,7 @@ impl Keyed<OrderNumber> for Option<Order> {
     ghost bears = { λ o k. has_number k.0 (slot_of o) };
 
     fn is_at(&self, key: OrderNumber) -> bool {
-        match *self {
-            Some(order) => order.number == key.0,
-            None => false,
-        }
+        self.is_some_and(|order| order.number == key.0)
     }
 }
 

@@ -22,10 +22,7 @@ const ROW: usize = 31;
 fn is_marked(bytes: &[u8]) -> bool
     ensures { result ≡ marked bytes.now }
 {
-    match bytes {
-        [b'L', b'R', b'I', 0, 1, _, _, ..] => true,
-        _ => false,
-    }
+    matches!(bytes, [b'L', b'R', b'I', 0, 1, _, _, ..])
 }
 
 fn room_of(bytes: &[u8]) -> usize

@@ -50,8 +50,5 @@ pub fn find_in<K: Copy, R: Keyed<K> + Drop, S: Table<R>>(table: &S, key: K) -> O
 fn bears_at<K: Copy, R: Keyed<K> + Drop, S: Table<R>>(table: &S, place: usize, key: K) -> bool
     ensures { result ≡ passes (λ t. R.Keyed.bears t key) (slice_get (S.Table.records table.now) place) }
 {
-    match table.record(place) {
-        Some(record) => record.is_at(key),
-        None => false,
-    }
+    table.record(place).is_some_and(|record| record.is_at(key))
 }
