@@ -43,6 +43,7 @@ pub fn put_held<S: Store>(store: &mut S, held: Held, figures: Figures)
     if held.figures == figures {
         return;
     }
+    // a place beyond the last is no fault here
     let _ = store.put(held.place, figures);
 }
 

@@ -15,6 +15,7 @@ use registers::store::Store;
 pub fn carry_out<S: Store>(engine: &mut Engine<S>, call: Call) -> Result<i64, Refusal>
     ensures { Done (call_of engine.old.state call) engine.old.state engine.new.state result }
 {
+    // a match: calls are values, since the law speaks of lists of them
     match call {
         Call::Admit { security, ratio } => engine.admit(security, ratio),
         Call::Open(opening) => engine.open(opening),
@@ -49,7 +50,8 @@ pub fn run<S: Store>(
 {
     let mut engine = Engine::new(store, reserve);
     let count = calls.len().min(outcomes.len());
-    // by index: of a slice that `iter_mut` lent, a proof knows no element afterwards
+    // by index, tried with `iter_mut().zip(calls)`: of a slice that `iter_mut` lent, a proof knows no element
+    // afterwards
     for i in 0..count {
         let outcome = carry_out(&mut engine, calls[i]);
         outcomes[i] = outcome;

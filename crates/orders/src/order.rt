@@ -34,6 +34,7 @@ pub struct Order {
 /// order that was announced last.
 #[derive(Clone, Copy, PartialEq, Eq, Debug)]
 pub struct Book {
+    // an array of places, which are freed and taken again: there is no heap for a map
     pub orders: [Option<Order>; 256],
     pub last: u32,
 }

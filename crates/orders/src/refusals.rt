@@ -10,6 +10,7 @@ impl Refusal {
     pub fn number(self) -> u8
         ensures { result ≡ number_of self }
     {
+        // a match, since `as` takes no enum with a case that carries a fault
         match self {
             Refusal::RegisterOpen => 1,
             Refusal::SecurityAdmitted => 3,
@@ -54,6 +55,7 @@ impl Layer {
     pub fn letter(self) -> char
         ensures { result ≡ letter_of self }
     {
+        // a match: letters beside the cases, where the numbers of characters would hide them
         match self {
             Layer::Store => 'S',
             Layer::Engine => 'L',

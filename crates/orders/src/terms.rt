@@ -7,6 +7,7 @@ use registers::ranges::{Price, Quantity};
 #[derive(Clone, Copy, PartialEq, Eq, Debug)]
 pub struct Announcement {
     pub side: Side,
+    // any number: a caller checks nothing beforehand, and check 5 judges it
     pub mode: u8,
     pub number: u32,
     pub account: u32,
@@ -28,6 +29,7 @@ pub struct Deal {
 /// The arguments of an opening.
 #[derive(Clone, Copy, PartialEq, Eq, Debug)]
 pub struct Opening {
+    // any number: a caller checks nothing beforehand, and check 5 judges it
     pub kind: u8,
     pub code: u32,
     pub security: u16,

@@ -31,6 +31,7 @@ fn product(quantity: Quantity, price: Price) -> u64
     u64::from(quantity.value) * u64::from(price.value)
 }
 
+// apart from `millionths`: by quotient and remainder, where that takes one sum; one function for both is no plainer
 #[tactic(auto, unfolding(crate::specs::Amounts::rounded))]
 fn hundredths(product: u64) -> u64
     requires { product ≤ 100000000000000 }

@@ -206,6 +206,7 @@ impl<'a> ImageStore<'a> {
     }
 }
 
+// which bytes a call leaves, and that they stay lent, is said at each call: it is of the store before and after
 impl Store for ImageStore<'_> {
     ghost rows = { λ s. image_rows s.bytes.now };
 

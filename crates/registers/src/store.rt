@@ -12,6 +12,9 @@ use crate::row::{Figures, Key, Row};
 /// exceeded. Questions and refusals change nothing. The questions too take the store for writing, so
 /// that a store may sit over a device that has to be asked.
 pub trait Store {
+    // that rows and room stay is said at each call: it is of the store before and after, and no fact of one
+    // value says it
+
     /// The rows, in their order.
     ghost rows: { Self → List RowOf };
 

@@ -15,6 +15,7 @@ use crate::store::Store;
 #[derive(Drop)]
 pub struct RowStore<'a> {
     table: &'a mut [Row],
+    // a count beside the table, which its owner lends: there is no heap for a list
     filled: usize,
     ghost inside: { filled ≤ table_room table.now },
 }

@@ -38,6 +38,7 @@ pub trait Table<R> {
         ensures { result ≡ slice_get (records self.now) place };
 }
 
+// apart from `find`, which goes over a slice: these records are asked for by their places
 /// The least place of `table` whose record bears `key`, counted from 0, or `None` where none does.
 pub fn find_in<K: Copy, R: Keyed<K> + Drop, S: Table<R>>(table: &S, key: K) -> Option<usize>
     ensures place { result ≡ place_of (λ t. R.Keyed.bears t key) (S.Table.records table.now) }
