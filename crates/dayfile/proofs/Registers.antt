@@ -1,5 +1,5 @@
 -- The lines of the registers from a place on.
-use Rattle.std.proofs.Common.{◌≡◌, ℕ, zero, suc, ◌+◌, List, [], ◌∷◌, map, drop, Some, None, Option, sym, ap, ◌∙◌, add-one, arith}
+use Rattle.std.proofs.Common.{◌≡◌, ℕ, zero, suc, ◌+◌, List, [], ◌∷◌, map, drop, Some, None, Option, sym, ap, ◌∙◌, add-one}
 use lib.Seq.{drop-nil}
 use Rattle.std.specs.List.{slice_get}
 use Rattle.registers.specs.declared.row.Row.{Row}
@@ -13,13 +13,13 @@ use Rattle.dayfile.specs.Days.{told}
 
 -- the list from a place on begins with what stands there
 drop_nth : {X : Type 0} (xs : List X) (i : ℕ) (x : X) → Some x ≡ slice_get xs i → drop i xs ≡ x ∷ drop (suc i) xs
-drop_nth [] i x e = absurd (let z : ◌≡◌ {A = ℕ} 0 1 = cc in omega arith)
+drop_nth [] i x e = cc
 drop_nth {X = X} (y ∷ ys) zero x e = let s : x ≡ y = cc in ap (λ (v : X). v ∷ ys) (sym s)
 drop_nth (y ∷ ys) (suc i) x e = drop_nth ys i x e
 
 drop_none : {X : Type 0} (xs : List X) (i : ℕ) → None ≡ slice_get xs i → drop i xs ≡ []
 drop_none [] i e = drop-nil i
-drop_none (y ∷ ys) zero e = absurd (let z : ◌≡◌ {A = ℕ} 0 1 = cc in omega arith)
+drop_none (y ∷ ys) zero e = cc
 drop_none (y ∷ ys) (suc i) e = drop_none ys i e
 
 -- the first line, and the lines behind it

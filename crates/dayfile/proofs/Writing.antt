@@ -1,12 +1,12 @@
 -- Lines written one after the other.
-use Rattle.std.proofs.Common.{◌≡◌, ℕ, List, [], ◌∷◌, ◌++◌, drop, Some, sym, ap, ◌∙◌, append_assoc, arith}
+use Rattle.std.proofs.Common.{◌≡◌, ℕ, List, [], ◌∷◌, ◌++◌, drop, Some, sym, ap, ◌∙◌, append_assoc}
 use Rattle.std.specs.List.{slice_get}
 use Rattle.dayfile.specs.declared.line.Line.{Line}
 use Rattle.dayfile.specs.Texts.{line_text, listing_text}
 
 -- a list whose first element is known
 cons_of : (ls : List Line) (l : Line) → Some l ≡ slice_get ls 0 → ls ≡ l ∷ drop 1 ls
-cons_of [] l e = absurd (let z : ◌≡◌ {A = ℕ} 0 1 = cc in omega arith)
+cons_of [] l e = cc
 cons_of (x ∷ ls) l e = let s : l ≡ x = cc in ap (λ (y : Line). y ∷ ls) (sym s)
 
 -- the first line is written, and the others are left

@@ -8,7 +8,7 @@ use full::engine::Engine;
 use registers::store::Store;
 
 /// What a listing tells next.
-#[derive(Clone, Copy)]
+#[derive(Clone, Copy, PartialEq, Eq, Debug)]
 pub enum Stage {
     /// A fault of the file as a whole.
     Header(FileFault),
