@@ -1,7 +1,8 @@
 -- The lines of the registers from a place on.
-use Rattle.std.proofs.Common.{◌≡◌, ℕ, zero, suc, ◌+◌, List, [], ◌∷◌, map, drop, Some, None, Option, sym, ap, ◌∙◌, add-one}
-use lib.Seq.{drop-nil}
+use Rattle.std.proofs.Common.{◌≡◌, inl, inr, ℕ, ◌+◌, List, [], ◌∷◌, map, drop, Some, None, Option, sym, ap, ◌∙◌}
 use Rattle.std.specs.List.{slice_get}
+use Rattle.std.proofs.lemmas.List.{drop_all, drop_more}
+use Rattle.std.proofs.lemmas.Option.{slice_get_cases, slice_get_within, get_or_from_slice_get}
 use Rattle.registers.specs.declared.row.Row.{Row}
 use Rattle.full.specs.Plans.{State}
 use Rattle.day_records.specs.Items.{Item}
@@ -11,16 +12,13 @@ use Rattle.dayfile.specs.declared.line.Line.{Line}
 use Rattle.dayfile.specs.declared.line.Line.TheVariants.{Register}
 use Rattle.dayfile.specs.Days.{told}
 
--- the list from a place on begins with what stands there
-drop_nth : {X : Type 0} (xs : List X) (i : ℕ) (x : X) → Some x ≡ slice_get xs i → drop i xs ≡ x ∷ drop (suc i) xs
-drop_nth [] i x e = cc
-drop_nth {X = X} (y ∷ ys) zero x e = let s : x ≡ y = cc in ap (λ (v : X). v ∷ ys) (sym s)
-drop_nth (y ∷ ys) (suc i) x e = drop_nth ys i x e
-
+-- past the last element a list from a place on is empty
 drop_none : {X : Type 0} (xs : List X) (i : ℕ) → None ≡ slice_get xs i → drop i xs ≡ []
-drop_none [] i e = drop-nil i
-drop_none (y ∷ ys) zero e = cc
-drop_none (y ∷ ys) (suc i) e = drop_none ys i e
+drop_none xs i e = elim (slice_get_cases xs i).1 [ inl inside ↦ cc | inr past ↦ drop_all i xs past.0 ]
+
+-- the list from a place on begins with what stands there
+drop_some : {X : Type 0} (xs : List X) (i : ℕ) (x : X) → Some x ≡ slice_get xs i → drop i xs ≡ x ∷ drop (i + 1) xs
+drop_some {X = X} xs i x e = drop_more xs i x (slice_get_within xs i x (sym e)) ∙ ap (λ (y : X). y ∷ drop (i + 1) xs) (get_or_from_slice_get xs i x x (sym e))
 
 -- the first line, and the lines behind it
 pub record Front (ls : List Line) (r : Option Line) (ls' : List Line) : Type 0 where
@@ -47,4 +45,4 @@ module _ (stage : Stage) (s t : State) (count : ℕ) (items : List Item) (place 
   -- a register is told, and those behind it are left
   pub one_register : (row : Row) → t ≡ s → Some row ≡ slice_get s.rows place → Front (told stage s count items) (Some (Register row)) (map Register (drop (place + 1) t.rows))
   one_register row same e =
-      front _ _ _ (stage_told s ∙ ap (map Register) (drop_nth s.rows place row e) ∙ ap (λ (i : ℕ). Register row ∷ map Register (drop i s.rows)) (sym (add-one place)) ∙ ap (λ (u : State). Register row ∷ map Register (drop (place + 1) u.rows)) (sym same))
+      front _ _ _ (stage_told s ∙ ap (map Register) (drop_some s.rows place row e) ∙ ap (λ (u : State). Register row ∷ map Register (drop (place + 1) u.rows)) (sym same))
