@@ -1,6 +1,6 @@
 //! Where the listing of a day stands.
 
-ghost use Rattle.std.specs.Prelude.{◌≤◌};
+ghost use Rattle.std.specs.Prelude.{◌≡◌, ◌≤◌};
 
 use day_records::cursor::Reader;
 use day_records::fault::FileFault;
@@ -26,4 +26,26 @@ pub struct Day<'a, S: Store> {
     pub count: usize,
     pub stage: Stage,
     ghost counted: { count ≤ records.place },
+}
+
+impl<S: Store> Day<'_, S> {
+    /// Ends the day, and hands its store out again.
+    pub fn into_store(self) -> S
+        ensures { result ≡ self.entry.engine.store }
+    {
+        let Day {
+            engine,
+            records: _,
+            count: _,
+            stage: _,
+        } = self;
+        engine.into_store()
+    }
+}
+
+/// A day over a store that may be let go may be let go itself.
+impl<S: Store + Drop> Drop for Day<'_, S> {
+    fn drop(self) {
+        let _store = self.into_store();
+    }
 }
