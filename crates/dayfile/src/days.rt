@@ -116,9 +116,7 @@ impl<'a, S: Store> Day<'a, S> {
         ensures lines { YieldsFirst lines_left self.old result self.new }
         ensures state { self.new.engine.state ≡ self.old.engine.state }
     {
-        let Some(row) = row_at(&mut self.engine, place) else {
-            return None;
-        };
+        let row = row_at(&mut self.engine, place)?;
         self.stage = Stage::Registers(place + 1);
         Some(Line::Register { row })
     }
