@@ -1,5 +1,5 @@
 -- What a whole day comes to.
-use Rattle.std.proofs.Common.{◌≡◌, ℕ, List, [], ◌∷◌, take, drop, None, Ok, Err, Option, Result, sym, refl, ap, ◌∙◌, subst, append-nil, arith}
+use Rattle.std.proofs.Common.{◌≡◌, ℕ, List, [], take, Ok, Err, Result, sym, refl, ap, ◌∙◌, subst, append-nil}
 use Rattle.registers.specs.declared.row.Row.{Row}
 use Rattle.full.specs.Plans.{State, begin}
 use Rattle.full_runs.specs.Runs.{outcomes_of, state_after}
@@ -7,14 +7,9 @@ use Rattle.full_runs.specs.Tally.{empty, tallied}
 use Rattle.full_runs.specs.Law.{Law}
 use Rattle.full_runs.proofs.Laws.{finished}
 use Rattle.day_records.specs.declared.fault.FileFault.{FileFault}
-use Rattle.day_records.specs.Items.{Item, item_at, items_from, header_of, items_behind}
+use Rattle.day_records.specs.Items.{Item, header_of, items_behind}
 use Rattle.dayfile.specs.Lines.{reserve_in}
 use Rattle.day_runs.specs.Days.{calls_in, calls_of, reserve_of, begin_of}
-
--- where no item stands, none is left
-none_left : (p : ℕ) (s : List ℕ) → ◌≡◌ {A = Option Item} None (item_at p s) → items_from 0 p s ≡ []
-none_left p [] e = refl
-none_left p (b ∷ bs) e = absurd (let z : ◌≡◌ {A = ℕ} 0 1 = cc in omega arith)
 
 module _ (rows : List Row) (room : ℕ) (file : List ℕ) where
   -- the state and the law, once the state at the end is known
@@ -37,7 +32,5 @@ module _ (rows : List Row) (room : ℕ) (file : List ℕ) where
   begun reserve s e b = b ∙ ap (λ (h : Result ℕ FileFault). begin rows room (reserve_in h)) e
 
   -- the state once nothing is left to read
-  pub ended : (s s0 : State) (p : ℕ) (bytes : List ℕ) → bytes ≡ file → ◌≡◌ {A = Option Item} None (item_at p (drop p bytes)) → state_after s (calls_in (items_from 0 p (drop p file))) ≡ state_after s0 (calls_of file) → s0 ≡ begin_of rows room file → s ≡ state_after (begin_of rows room file) (calls_of file)
-  ended s s0 p bytes same none left b =
-      let e : items_from 0 p (drop p file) ≡ [] = none_left p (drop p file) (none ∙ ap (λ (x : List ℕ). item_at p (drop p x)) same) in
-      sym (ap (λ (is : List Item). state_after s (calls_in is)) e) ∙ left ∙ ap (λ (t : State). state_after t (calls_of file)) b
+  pub ended : (s s0 : State) (left : List Item) → left ≡ [] → state_after s (calls_in left) ≡ state_after s0 (calls_of file) → s0 ≡ begin_of rows room file → s ≡ state_after (begin_of rows room file) (calls_of file)
+  ended s s0 left none all b = sym (ap (λ (is : List Item). state_after s (calls_in is)) none) ∙ all ∙ ap (λ (t : State). state_after t (calls_of file)) b

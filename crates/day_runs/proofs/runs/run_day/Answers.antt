@@ -9,5 +9,5 @@ returns-in-Err g c =
 pub returns : goal.returns
 returns g c =
     let b = begun _ _ c.args.file.now c.in-Ok.day.reserve _ c.in-Ok.ensures.header c.new-engine.ensures.state in
-    let f = ran _ _ c.args.file.now _ (ended _ _ c.args.file.now _ _ c.loop-told.records.place _ c.loop-told.invariant.0 c.in_default.ensures.answer c.loop-told.invariant.1 b) in
+    let f = ran _ _ c.args.file.now _ (ended _ _ c.args.file.now _ _ _ c.in-None.ensures.steps.items.0 c.loop-told.invariant b) in
     record { left = f.state; law = f.law; kept = f.kept }
