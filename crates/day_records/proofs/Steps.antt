@@ -1,8 +1,8 @@
 -- One step of reading, over plain values.
-use Rattle.std.proofs.Common.{◌≡◌, ℕ, zero, suc, ◌+◌, ◌-◌, ◌<◌, ◌≤◌, Bool, true, false, cond, ltb, List, [], ◌∷◌, ◌++◌, length, get_or, take, drop, is_some, Some, None, Option, sym, refl, ap, ◌∙◌, subst, add-zero, arith, length-drop, drop-drop, ltb-false, le-ltb}
+use Rattle.std.proofs.Common.{◌≡◌, ℕ, zero, suc, ◌+◌, ◌-◌, ◌<◌, ◌≤◌, Bool, true, false, cond, ltb, List, [], ◌∷◌, ◌++◌, length, get_or, take, drop, is_some, Some, None, Option, sym, refl, ap, ◌∙◌, add-zero, arith, length-drop, drop-drop, ltb-false, le-ltb}
 use lib.Seq.{drop-length}
 use Rattle.std.specs.Option.{option_map, option_to_list}
-use Rattle.std.proofs.lemmas.List.{take_rest, length-take-le, drop_all}
+use Rattle.std.proofs.lemmas.List.{take_rest, length-take-le}
 use Rattle.day_records.specs.declared.fault.FileFault.{FileFault}
 use Rattle.day_records.specs.declared.fault.FileFault.TheVariants.{UnknownLetter, CutShort}
 use Rattle.day_records.specs.declared.kind.Kind.{Kind}
@@ -13,7 +13,7 @@ use Rattle.day_records.specs.Items.{Item, Seen, Bad, begun, item_at, place_after
 -- a record that stands whole, as the code has its parts
 module _ (place : ℕ) (sh : Shape) where
   of_kind : (bs : List ℕ) (o : Option Kind) → Some sh ≡ option_map shaped o → sh.length ≤ length bs → ◌≡◌ {A = Item} (Seen sh.kind (take sh.length bs) place) (begun o place bs)
-  of_kind bs None e h = absurd (let z : ◌≡◌ {A = ℕ} 0 1 = cc in omega arith)
+  of_kind bs None e h = cc
   of_kind bs (Some k) e h =
       let is : sh ≡ shaped k = cc in
       let n : sh.length ≡ length_of k = ap (λ (x : Shape). x.length) is in
@@ -46,7 +46,7 @@ pub record Step (s : List ℕ) (p : ℕ) (o : Option Item) : Type 0 where
 
 module _ (s : List ℕ) (p : ℕ) where
   at_end : drop p s ≡ [] → Step s p None
-  at_end e = record { items = refl; ends = λ h. absurd (let z : ◌≡◌ {A = ℕ} 0 1 = cc in omega arith); whole = λ k body q h. absurd (let z : ◌≡◌ {A = ℕ} 0 1 = cc in omega arith) }
+  at_end e = record { items = refl; ends = λ h. cc; whole = λ k body q h. cc }
 
   module _ (b : ℕ) (bs : List ℕ) (is : drop p s ≡ b ∷ bs) where
     before : p < length s
@@ -57,7 +57,7 @@ module _ (s : List ℕ) (p : ℕ) where
         record {
           items = rw (is, e, drop-length s);
           ends = λ _. (before, omega arith);
-          whole = λ k body q h. absurd (let z : ◌≡◌ {A = ℕ} 0 1 = cc in omega arith);
+          whole = λ k body q h. cc;
         }
 
     seen : (k : Kind) → begun (kind_for b) p bs ≡ Seen k (take (length_of k) bs) p → length_of k ≤ length bs → Step s p (Some (Seen k (take (length_of k) bs) p))
@@ -88,23 +88,6 @@ module _ (s : List ℕ) (p : ℕ) where
   pub step : Step s p (item_at p (drop p s))
   step = by_rest (drop p s) refl
 
--- what an answer of the reader and the place that it goes on at give
-pub record Gone (s : List ℕ) (p : ℕ) (o : Option Item) (p' : ℕ) : Type 0 where
-  pub items : items_from 0 p (drop p s) ≡ option_to_list o ++ items_from 0 p' (drop p' s)
-  pub ends : is_some o ≡ true → (p < p') × (p' ≤ length s)
-
-pub gone : (s : List ℕ) (p : ℕ) (o : Option Item) (p' : ℕ) → o ≡ item_at p (drop p s) → p' ≡ place_after o p (length s) → Gone s p o p'
-gone s p o p' e n =
-    let h : Step s p o = subst (λ (x : Option Item). Step s p x) (sym e) (step s p) in
-    record {
-      items = subst (λ (q : ℕ). items_from 0 p (drop p s) ≡ option_to_list o ++ items_from 0 q (drop q s)) (sym n) h.items;
-      ends = λ t. subst (λ (q : ℕ). (p < q) × (q ≤ length s)) (sym n) (h.ends t);
-    }
-
 -- the fields of a record that stands at a place are whole
 pub fields_whole : (s : List ℕ) (p : ℕ) (k : Kind) (body : List ℕ) (q : ℕ) → ◌≡◌ {A = Option Item} (Some (Seen k body q)) (item_at p (drop p s)) → length body ≡ length_of k
 fields_whole s p k body q e = (step s p).whole k body q (sym e)
-
--- past the end nothing stands
-pub nothing : (s : List ℕ) (p : ℕ) → length s ≤ p → ◌≡◌ {A = Option Item} None (item_at p (drop p s))
-nothing s p h = rw (drop_all p s h)

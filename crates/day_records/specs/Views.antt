@@ -1,12 +1,13 @@
 -- What the reader answers, as the definitions speak of it.
-use Rattle.std.specs.Prelude.{◌≡◌, ℕ, List, Ok, Err, Option, Result}
+use Rattle.std.specs.Prelude.{◌≡◌, ℕ, List, drop, Ok, Err, Option, Result}
 use Rattle.std.specs.Option.{option_map}
 use Rattle.day_records.specs.declared.cursor.DayFile.{DayFile}
+use Rattle.day_records.specs.declared.cursor.Reader.{Reader}
 use Rattle.day_records.specs.declared.fault.FileFault.{FileFault}
 use Rattle.day_records.specs.declared.fault.Misread.{Misread}
 use Rattle.day_records.specs.declared.placed.Placed.{Placed}
 use Rattle.day_records.specs.Kinds.{kind_of, body_of}
-use Rattle.day_records.specs.Items.{Item, Seen, Bad}
+use Rattle.day_records.specs.Items.{Item, Seen, Bad, item_at, items_from}
 
 -- the header's reserve or fault
 abbrev pub header_as : Result DayFile FileFault → Result ℕ FileFault
@@ -28,3 +29,10 @@ item_as (Err m) = Bad m.fault m.place
 
 abbrev pub told_as : Option (Result Placed Misread) → Option Item
 told_as o = option_map item_as o
+
+-- the items that a reader still gives, and the first of them
+abbrev pub items_left : Reader → List Item
+items_left r = items_from 0 r.place (drop r.place r.bytes.now)
+
+abbrev pub item_next : Reader → Option Item
+item_next r = item_at r.place (drop r.place r.bytes.now)

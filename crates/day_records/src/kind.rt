@@ -1,7 +1,7 @@
 //! The kinds of records.
 
 /// What a record asks for.
-#[derive(Clone, Copy)]
+#[derive(Clone, Copy, PartialEq, Eq, Debug)]
 pub enum Kind {
     /// A: admit a security.
     Admit,
@@ -24,7 +24,7 @@ pub enum Kind {
 }
 
 /// What a letter chooses: the kind of the record, and how many bytes of fields follow the letter.
-#[derive(Clone, Copy)]
+#[derive(Clone, Copy, PartialEq, Eq, Debug)]
 pub struct Shape {
     pub kind: Kind,
     pub length: usize,

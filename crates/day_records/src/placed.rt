@@ -3,7 +3,7 @@
 use crate::record::Record;
 
 /// A record of a day file and the place of its letter, counted from 0.
-#[derive(Clone, Copy)]
+#[derive(Clone, Copy, PartialEq, Eq, Debug)]
 pub struct Placed<'a> {
     pub record: Record<'a>,
     pub place: usize,

@@ -8,6 +8,7 @@ use crate::fault::Misread;
 use crate::placed::Placed;
 use crate::reader::open;
 use std::alloc::{AllocError, Global};
+use std::iter;
 
 /// All records of a day file in their order, and behind them the fault that stopped the reading, if
 /// there was one; a fault of the header stands alone. `AllocError` where memory does not suffice.
@@ -17,15 +18,8 @@ pub fn read_all<'a>(
 ) -> Result<Vec<Result<Placed<'a>, Misread>>, AllocError>
     ensures { IfOk result (λ v. map item_as v.items ≡ items_of file.now) }
 {
-    let mut items = Vec::new(heap);
     match open(file) {
-        Ok(day) => {
-            let mut records = day.records;
-            while let Some(told) = records.next() {
-                items.push(told)?;
-            }
-        }
-        Err(fault) => items.push(Err(Misread { fault, place: 0 }))?,
+        Ok(day) => day.records.collect(heap),
+        Err(fault) => iter::once(Err(Misread { fault, place: 0 })).collect(heap),
     }
-    Ok(items)
 }

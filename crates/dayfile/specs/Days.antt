@@ -2,8 +2,8 @@
 use Rattle.std.specs.Prelude.{ℕ, List, ◌∷◌, map, drop, Some, None, Option}
 use Rattle.registers.specs.declared.store.Store.{Ghosts}
 use Rattle.full.specs.Plans.{State}
-use Rattle.day_records.specs.declared.cursor.Reader.{Reader}
-use Rattle.day_records.specs.Items.{Item, Seen, Bad, item_at, items_from}
+use Rattle.day_records.specs.Items.{Item, Seen, Bad}
+use Rattle.day_records.specs.Views.{items_left}
 use Rattle.dayfile.specs.declared.day.Stage.{Stage}
 use Rattle.dayfile.specs.declared.day.Stage.TheVariants.{Header, Records, Registers}
 use Rattle.dayfile.specs.declared.day.Day.{Day}
@@ -12,13 +12,6 @@ use Rattle.dayfile.specs.declared.line.Line.TheVariants.{Fault, Register}
 use Rattle.dayfile.specs.declared.refusal.LineRefusal.TheVariants.{File}
 use Rattle.dayfile.specs.Calls.{call_for}
 use Rattle.dayfile.specs.Lines.{lines_from, left_of}
-
--- the items that a reader still gives
-abbrev pub items_left : Reader → List Item
-items_left r = items_from 0 r.place (drop r.place r.bytes.now)
-
-abbrev pub item_next : Reader → Option Item
-item_next r = item_at r.place (drop r.place r.bytes.now)
 
 -- the engine's state once the next line is told: a record that is read is carried out
 abbrev pub left_by : Stage → Option Item → State → State

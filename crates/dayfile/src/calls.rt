@@ -5,7 +5,7 @@ ghost use Rattle.day_records.specs.Kinds.{kind_of, body_of};
 ghost use Rattle.dayfile.specs.Calls.{full_length, admit_in, open_in, credit_in, announce_in, withdraw_in, trade_in, call_for};
 
 use crate::refusal::LineRefusal;
-use byte_fields::{u16_at, u32_at, u64_at};
+use byte_fields::read;
 use day_records::fault::FileFault;
 use day_records::record::Record;
 use full_runs::call::Call;
@@ -16,9 +16,10 @@ use orders::terms::{Announcement, Deal, Opening};
 fn admission(body: &[u8]) -> Option<Call>
     ensures { result ≡ full_length 4 body.now (admit_in body.now) }
 {
-    let security = u16_at(body, 0)?;
-    let ratio = u16_at(body, 2)?;
-    Some(Call::Admit { security, ratio })
+    Some(Call::Admit {
+        security: read(body, 0)?,
+        ratio: read(body, 2)?,
+    })
 }
 
 fn opening(body: &[u8]) -> Option<Call>
@@ -27,29 +28,22 @@ fn opening(body: &[u8]) -> Option<Call>
     let [kind, ..] = body else {
         return None;
     };
-    let code = u32_at(body, 1)?;
-    let security = u16_at(body, 5)?;
-    let limit = u64_at(body, 7)?;
-    let margin = u64_at(body, 15)?;
     Some(Call::Open(Opening {
         kind: *kind,
-        code,
-        security,
-        limit,
-        margin,
+        code: read(body, 1)?,
+        security: read(body, 5)?,
+        limit: read(body, 7)?,
+        margin: read(body, 15)?,
     }))
 }
 
 fn crediting(body: &[u8]) -> Option<Call>
     ensures { result ≡ full_length 14 body.now (credit_in body.now) }
 {
-    let code = u32_at(body, 0)?;
-    let security = u16_at(body, 4)?;
-    let amount = u64_at(body, 6)?;
     Some(Call::Credit {
-        code,
-        security,
-        amount,
+        code: read(body, 0)?,
+        security: read(body, 4)?,
+        amount: read(body, 6)?,
     })
 }
 
@@ -59,43 +53,34 @@ fn announcement(body: &[u8], side: Side) -> Option<Call>
     let [mode, ..] = body else {
         return None;
     };
-    let number = u32_at(body, 1)?;
-    let account = u32_at(body, 5)?;
-    let security = u16_at(body, 9)?;
-    let quantity = u32_at(body, 11)?;
-    let price = u32_at(body, 15)?;
     Some(Call::Announce(Announcement {
         side,
         mode: *mode,
-        number,
-        account,
-        security,
-        quantity,
-        price,
+        number: read(body, 1)?,
+        account: read(body, 5)?,
+        security: read(body, 9)?,
+        quantity: read(body, 11)?,
+        price: read(body, 15)?,
     }))
 }
 
 fn withdrawal(body: &[u8]) -> Option<Call>
     ensures { result ≡ full_length 4 body.now (withdraw_in body.now) }
 {
-    let number = u32_at(body, 0)?;
-    Some(Call::Withdraw { number })
+    Some(Call::Withdraw {
+        number: read(body, 0)?,
+    })
 }
 
 fn trade(body: &[u8]) -> Option<Call>
     ensures { result ≡ full_length 20 body.now (trade_in body.now) }
 {
-    let number = u32_at(body, 0)?;
-    let buy = u32_at(body, 4)?;
-    let sell = u32_at(body, 8)?;
-    let quantity = u32_at(body, 12)?;
-    let price = u32_at(body, 16)?;
     Some(Call::Trade(Deal {
-        number,
-        buy,
-        sell,
-        quantity,
-        price,
+        number: read(body, 0)?,
+        buy: read(body, 4)?,
+        sell: read(body, 8)?,
+        quantity: read(body, 12)?,
+        price: read(body, 16)?,
     }))
 }
 

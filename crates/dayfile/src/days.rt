@@ -5,8 +5,9 @@ ghost use Rattle.std.specs.List.{slice_get};
 ghost use Rattle.full.specs.Plans.{begin};
 ghost use Rattle.dayfile.specs.declared.day.Stage.TheVariants.{Records, Registers};
 ghost use Rattle.day_records.specs.Items.{header_of};
+ghost use Rattle.day_records.specs.Views.{item_next};
 ghost use Rattle.dayfile.specs.Lines.{lines_of, reserve_in};
-ghost use Rattle.dayfile.specs.Days.{lines_left, item_next, left_by};
+ghost use Rattle.dayfile.specs.Days.{lines_left, left_by};
 
 use crate::carrying::carry_out;
 use crate::day::{Day, Stage};
