@@ -1,14 +1,14 @@
 //! A market to trade in: a buyer, a seller, five orders and one trade.
 
 use crate::support::{
-    SECURITY, buy, cash, check_admit, check_announce, check_figures, check_open, check_trade,
-    check_withdraw, holding, sell,
+    SECURITY, admit, buy, cash, check_rows, figures, holding, make, order, sell, withdraw,
 };
 use full::engine::Engine;
+use full_runs::call::Call;
+use orders::order::Side;
 use orders::terms::{Announcement, Deal};
 use registers::store::Store;
 use std::process::Abort;
-use std::test::Fail;
 
 /// The buyer's account.
 pub const BUYER: u32 = 701;
@@ -28,53 +28,54 @@ pub const GOOD: Deal = Deal {
     price: 9_900,
 };
 
-fn open_registers<S: Store>(rt: &impl Abort, engine: &mut Engine<S>) -> Result<(), Fail> {
-    check_admit(rt, engine, SECURITY, 1_000, Ok(1))?;
-    check_admit(rt, engine, OTHER, 1_000, Ok(2))?;
-    check_open(rt, engine, cash(BUYER, 10_200), Ok(1))?;
-    check_open(rt, engine, cash(SELLER, 0), Ok(2))?;
-    check_open(rt, engine, holding(BUYER, SECURITY, 10), Ok(3))?;
-    check_open(rt, engine, holding(SELLER, SECURITY, 300), Ok(4))?;
-    check_open(rt, engine, holding(SELLER, OTHER, 1), Ok(5))
-}
-
-fn announce_orders<S: Store>(rt: &impl Abort, engine: &mut Engine<S>) -> Result<(), Fail> {
-    check_announce(rt, engine, buy(1, BUYER, 100, 10_000), Ok(10_000))?;
-    check_announce(rt, engine, sell(2, SELLER, 150, 9_800), Ok(150))?;
+/// Opens five registers, announces five orders, and trades 1 of the buyer's 100 under number 7.
+pub(crate) fn prepare<S: Store>(rt: &impl Abort, engine: &mut Engine<S>) {
     let other = Announcement {
         security: OTHER,
-        ..sell(3, SELLER, 1, 9_800)
+        ..order(Side::Sell, 3, SELLER, 1, 9_800)
     };
-    check_announce(rt, engine, other, Ok(1))?;
-    check_announce(rt, engine, sell(4, BUYER, 10, 9_800), Ok(10))?;
-    check_announce(rt, engine, sell(5, SELLER, 60, 9_800), Ok(60))
-}
-
-/// Opens five registers, announces five orders, and trades 1 of the buyer's 100 under number 7.
-pub(crate) fn prepare<S: Store>(rt: &impl Abort, engine: &mut Engine<S>) -> Result<(), Fail> {
-    open_registers(rt, engine)?;
-    announce_orders(rt, engine)?;
     let first = Deal {
         number: 7,
         quantity: 1,
         ..GOOD
     };
-    check_trade(rt, engine, first, Ok(99))
+    let steps = [
+        (admit(SECURITY, 1_000), Ok(1)),
+        (admit(OTHER, 1_000), Ok(2)),
+        (cash(BUYER, 10_200), Ok(1)),
+        (cash(SELLER, 0), Ok(2)),
+        (holding(BUYER, SECURITY, 10), Ok(3)),
+        (holding(SELLER, SECURITY, 300), Ok(4)),
+        (holding(SELLER, OTHER, 1), Ok(5)),
+        (buy(1, BUYER, 100, 10_000), Ok(10_000)),
+        (sell(2, SELLER, 150, 9_800), Ok(150)),
+        (Call::Announce(other), Ok(1)),
+        (sell(4, BUYER, 10, 9_800), Ok(10)),
+        (sell(5, SELLER, 60, 9_800), Ok(60)),
+        (Call::Trade(first), Ok(99)),
+    ];
+    make(rt, engine, &steps);
 }
 
 /// Makes the good deal, which ends the buyer's order and leaves 50 of the seller's 150 to withdraw.
-pub(crate) fn finish<S: Store>(rt: &impl Abort, engine: &mut Engine<S>) -> Result<(), Fail> {
-    check_trade(rt, engine, GOOD, Ok(9_801))?;
-    check_withdraw(rt, engine, 1, Err(11))?;
-    check_withdraw(rt, engine, 2, Ok(50))
+pub(crate) fn finish<S: Store>(rt: &impl Abort, engine: &mut Engine<S>) {
+    let steps = [
+        (Call::Trade(GOOD), Ok(9_801)),
+        (withdraw(1), Err(11)),
+        (withdraw(2), Ok(50)),
+    ];
+    make(rt, engine, &steps);
 }
 
 /// Checks every row as the market leaves it once it is finished.
-pub(crate) fn check_rows<S: Store>(rt: &impl Abort, store: &mut S) -> Result<(), Fail> {
+pub(crate) fn check_finished<S: Store>(rt: &impl Abort, store: &mut S) {
     assert_eq!(rt; store.count(), 5);
-    check_figures(rt, store, 0, (300, 0, 0))?;
-    check_figures(rt, store, 1, (9_900, 0, 0))?;
-    check_figures(rt, store, 2, (110, 10, 0))?;
-    check_figures(rt, store, 3, (200, 60, 0))?;
-    check_figures(rt, store, 4, (1, 1, 0))
+    let rows = [
+        (0, figures(300, 0, 0)),
+        (1, figures(9_900, 0, 0)),
+        (2, figures(110, 10, 0)),
+        (3, figures(200, 60, 0)),
+        (4, figures(1, 1, 0)),
+    ];
+    check_rows(rt, store, &rows);
 }

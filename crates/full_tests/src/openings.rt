@@ -1,73 +1,67 @@
 //! Openings: a full store, and what is refused.
 
 use crate::support::{
-    BLANK, RESERVE, SECURITY, cash, check_admit, check_credit, check_figures, check_open, holding,
+    RESERVE, SECURITY, admit, cash, check_rows, credit, figures, holding, make, opening,
 };
 use full::engine::Engine;
+use full_runs::call::Call;
 use orders::terms::Opening;
+use registers::row::{BLANK, Kind};
 use registers::store::Store;
 use registers::table::RowStore;
-use std::process::Abort;
-use std::test::Fail;
-
-fn open_one<S: Store>(rt: &impl Abort, engine: &mut Engine<S>) -> Result<(), Fail> {
-    check_open(rt, engine, cash(701, 201), Ok(1))?;
-    check_open(rt, engine, cash(702, 0), Err(2))?;
-    check_open(rt, engine, cash(701, 0), Err(1))?;
-    check_open(rt, engine, holding(701, SECURITY, 0), Err(7))?;
-    check_admit(rt, engine, SECURITY, 1_000, Ok(1))?;
-    check_open(rt, engine, holding(701, SECURITY, 0), Err(2))?;
-    check_credit(rt, engine, 702, 0, 1, Err(6))
-}
 
 #[test]
-fn a_store_with_room_for_one(rt: HostRuntime) -> Result<(), Fail> {
+fn a_store_with_room_for_one(rt: HostRuntime) {
     let mut table = [BLANK; 1];
     let mut engine = Engine::new(RowStore::new(&mut table), RESERVE);
-    let result = open_one(&rt, &mut engine);
+    let steps = [
+        (cash(701, 201), Ok(1)),
+        (cash(702, 0), Err(2)),
+        (cash(701, 0), Err(1)),
+        (holding(701, SECURITY, 0), Err(7)),
+        (admit(SECURITY, 1_000), Ok(1)),
+        (holding(701, SECURITY, 0), Err(2)),
+        (credit(702, 0, 1), Err(6)),
+    ];
+    make(&rt, &mut engine, &steps);
     let mut store = engine.into_store();
-    result?;
     assert_eq!(rt; store.count(), 1);
-    check_figures(&rt, &mut store, 0, (201, 0, 0))
-}
-
-fn open_bad_values<S: Store>(rt: &impl Abort, engine: &mut Engine<S>) -> Result<(), Fail> {
-    let good = cash(701, 0);
-    check_open(rt, engine, Opening { kind: 0, ..good }, Err(5))?;
-    check_open(rt, engine, Opening { kind: 3, ..good }, Err(5))?;
-    check_open(rt, engine, Opening { margin: 1, ..good }, Err(5))?;
-    check_open(
-        rt,
-        engine,
-        Opening {
-            security: SECURITY,
-            ..good
-        },
-        Err(5),
-    )?;
-    check_open(rt, engine, holding(701, 0, 0), Err(5))?;
-    check_open(rt, engine, holding(701, 10_000, 0), Err(5))?;
-    check_open(rt, engine, cash(99, 0), Err(5))?;
-    check_open(rt, engine, cash(1_000_000, 0), Err(5))?;
-    check_open(rt, engine, cash(701, 100_000_000_000_001), Err(5))
-}
-
-fn open_at_the_ends<S: Store>(rt: &impl Abort, engine: &mut Engine<S>) -> Result<(), Fail> {
-    open_bad_values(rt, engine)?;
-    check_admit(rt, engine, 9_999, 1_000, Ok(1))?;
-    check_open(rt, engine, cash(100, 0), Ok(1))?;
-    check_open(rt, engine, cash(999_999, 100_000_000_000_000), Ok(2))?;
-    check_open(rt, engine, holding(100, 9_999, 1), Ok(3))?;
-    check_open(rt, engine, holding(100, 9_998, 1), Err(7))
+    check_rows(&rt, &mut store, &[(0, figures(201, 0, 0))]);
 }
 
 #[test]
-fn openings_at_the_ends_of_their_ranges(rt: HostRuntime) -> Result<(), Fail> {
+fn openings_at_the_ends_of_their_ranges(rt: HostRuntime) {
     let mut table = [BLANK; 3];
     let mut engine = Engine::new(RowStore::new(&mut table), RESERVE);
-    let result = open_at_the_ends(&rt, &mut engine);
+    let good = opening(Kind::Cash, 701, 0, 0);
+    let secured = Opening {
+        security: SECURITY,
+        ..good
+    };
+    let outside = [
+        (Call::Open(Opening { kind: 0, ..good }), Err(5)),
+        (Call::Open(Opening { kind: 3, ..good }), Err(5)),
+        (Call::Open(Opening { margin: 1, ..good }), Err(5)),
+        (Call::Open(secured), Err(5)),
+        (holding(701, 0, 0), Err(5)),
+        (holding(701, 10_000, 0), Err(5)),
+        (cash(99, 0), Err(5)),
+        (cash(1_000_000, 0), Err(5)),
+        (cash(701, 100_000_000_000_001), Err(5)),
+    ];
+    make(&rt, &mut engine, &outside);
+    let inside = [
+        (admit(9_999, 1_000), Ok(1)),
+        (cash(100, 0), Ok(1)),
+        (cash(999_999, 100_000_000_000_000), Ok(2)),
+        (holding(100, 9_999, 1), Ok(3)),
+        (holding(100, 9_998, 1), Err(7)),
+    ];
+    make(&rt, &mut engine, &inside);
     let mut store = engine.into_store();
-    result?;
-    check_figures(&rt, &mut store, 1, (100_000_000_000_000, 0, 0))?;
-    check_figures(&rt, &mut store, 2, (1, 0, 0))
+    let rows = [
+        (1, figures(100_000_000_000_000, 0, 0)),
+        (2, figures(1, 0, 0)),
+    ];
+    check_rows(&rt, &mut store, &rows);
 }

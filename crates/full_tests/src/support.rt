@@ -1,13 +1,13 @@
-//! What the tests share: arguments of calls, and checks of what calls answer and of what rows hold.
+//! What the tests share: calls in short, and the loops that make calls and look at rows.
 
 use full::engine::Engine;
+use full_runs::call::Call;
+use full_runs::runs::carry_out;
 use orders::order::Side;
-use orders::refusal::Refusal;
 use orders::terms::{Announcement, Deal, Opening};
-use registers::row::{Figures, Key, Row};
+use registers::row::{Figures, Kind};
 use registers::store::Store;
 use std::process::Abort;
-use std::test::Fail;
 
 /// The reserve that most tests have, in kopecks.
 pub const RESERVE: u16 = 200;
@@ -15,129 +15,39 @@ pub const RESERVE: u16 = 200;
 /// The security that most tests trade.
 pub const SECURITY: u16 = 5;
 
-/// A row of zeros, to make tables of.
-pub const BLANK: Row = Row {
-    key: Key {
-        kind: 0,
-        code: 0,
-        security: 0,
-    },
-    figures: Figures {
-        limit: 0,
-        blocked: 0,
-        third: 0,
-    },
-};
+/// A call, and what it should answer, or the number of its refusal.
+pub type Step = (Call, Result<i64, u8>);
 
-/// Compares a call's answer, or the number of its refusal, with what is expected.
-fn check_answer(
-    rt: &impl Abort,
-    answer: Result<i64, Refusal>,
-    expected: Result<i64, u8>,
-) -> Result<(), Fail> {
-    match answer {
-        Ok(value) => {
-            assert_eq!(rt; Ok(value), expected);
-            Ok(())
-        },
-        Err(refusal) => {
-            assert_eq!(rt; Err(refusal.number()), expected);
-            Ok(())
-        },
+/// A place of a store, and the figures that should stand there.
+pub type Stored = (usize, Figures);
+
+/// Makes calls in their order, and compares each answer with what is expected.
+pub(crate) fn make<S: Store>(rt: &impl Abort, engine: &mut Engine<S>, steps: &[Step]) {
+    for (place, (call, expected)) in steps.iter().enumerate() {
+        let answer = carry_out(engine, *call).map_err(|refusal| refusal.number());
+        assert_eq!(rt; answer, *expected, "call {place}");
     }
 }
 
-pub(crate) fn check_admit<S: Store>(
-    rt: &impl Abort,
-    engine: &mut Engine<S>,
-    security: u16,
-    ratio: u16,
-    expected: Result<i64, u8>,
-) -> Result<(), Fail> {
-    check_answer(rt, engine.admit(security, ratio), expected)
-}
-
-pub(crate) fn check_open<S: Store>(
-    rt: &impl Abort,
-    engine: &mut Engine<S>,
-    opening: Opening,
-    expected: Result<i64, u8>,
-) -> Result<(), Fail> {
-    check_answer(rt, engine.open(opening), expected)
-}
-
-pub(crate) fn check_credit<S: Store>(
-    rt: &impl Abort,
-    engine: &mut Engine<S>,
-    code: u32,
-    security: u16,
-    amount: u64,
-    expected: Result<i64, u8>,
-) -> Result<(), Fail> {
-    check_answer(rt, engine.credit(code, security, amount), expected)
-}
-
-pub(crate) fn check_announce<S: Store>(
-    rt: &impl Abort,
-    engine: &mut Engine<S>,
-    announcement: Announcement,
-    expected: Result<i64, u8>,
-) -> Result<(), Fail> {
-    check_answer(rt, engine.announce(announcement), expected)
-}
-
-pub(crate) fn check_withdraw<S: Store>(
-    rt: &impl Abort,
-    engine: &mut Engine<S>,
-    number: u32,
-    expected: Result<i64, u8>,
-) -> Result<(), Fail> {
-    check_answer(rt, engine.withdraw(number), expected)
-}
-
-pub(crate) fn check_trade<S: Store>(
-    rt: &impl Abort,
-    engine: &mut Engine<S>,
-    deal: Deal,
-    expected: Result<i64, u8>,
-) -> Result<(), Fail> {
-    check_answer(rt, engine.trade(deal), expected)
-}
-
-/// Compares the limit, the blocked figure and the third at a place with what is expected.
-pub(crate) fn check_figures<S: Store>(
-    rt: &impl Abort,
-    store: &mut S,
-    place: usize,
-    expected: (i64, i64, i64),
-) -> Result<(), Fail> {
-    match store.row(place) {
-        Some(row) => {
-            assert_eq!(rt;
-                (row.figures.limit, row.figures.blocked, row.figures.third),
-                expected
-            );
-            Ok(())
-        },
-        None => Err(Fail::new("no such row")),
+/// Compares the figures at places with what is expected.
+pub(crate) fn check_rows<S: Store>(rt: &impl Abort, store: &mut S, expected: &[Stored]) {
+    for (place, figures) in expected {
+        let found = store.row(*place).map(|row| row.figures);
+        assert_eq!(rt; found, Some(*figures), "row {place}");
     }
 }
 
-/// The opening of an account's cash.
-pub(crate) fn cash(code: u32, limit: u64) -> Opening {
-    Opening {
-        kind: 1,
-        code,
-        security: 0,
+pub(crate) fn figures(limit: i64, blocked: i64, third: i64) -> Figures {
+    Figures {
         limit,
-        margin: 0,
+        blocked,
+        third,
     }
 }
 
-/// The opening of an account's holding.
-pub(crate) fn holding(code: u32, security: u16, limit: u64) -> Opening {
+pub(crate) fn opening(kind: Kind, code: u32, security: u16, limit: u64) -> Opening {
     Opening {
-        kind: 2,
+        kind: kind as u8,
         code,
         security,
         limit,
@@ -145,10 +55,16 @@ pub(crate) fn holding(code: u32, security: u16, limit: u64) -> Opening {
     }
 }
 
-/// A purchase with full collateral.
-pub(crate) fn buy(number: u32, account: u32, quantity: u32, price: u32) -> Announcement {
+/// An order with full collateral.
+pub(crate) fn order(
+    side: Side,
+    number: u32,
+    account: u32,
+    quantity: u32,
+    price: u32,
+) -> Announcement {
     Announcement {
-        side: Side::Buy,
+        side,
         mode: 1,
         number,
         account,
@@ -158,15 +74,65 @@ pub(crate) fn buy(number: u32, account: u32, quantity: u32, price: u32) -> Annou
     }
 }
 
-/// A sale with full collateral.
-pub(crate) fn sell(number: u32, account: u32, quantity: u32, price: u32) -> Announcement {
-    Announcement {
-        side: Side::Sell,
-        mode: 1,
+pub(crate) fn admit(security: u16, ratio: u16) -> Call {
+    Call::Admit { security, ratio }
+}
+
+/// Opens an account's cash.
+pub(crate) fn cash(code: u32, limit: u64) -> Call {
+    Call::Open(opening(Kind::Cash, code, 0, limit))
+}
+
+/// Opens an account's holding.
+pub(crate) fn holding(code: u32, security: u16, limit: u64) -> Call {
+    Call::Open(opening(Kind::Holding, code, security, limit))
+}
+
+pub(crate) fn credit(code: u32, security: u16, amount: u64) -> Call {
+    Call::Credit {
+        code,
+        security,
+        amount,
+    }
+}
+
+pub(crate) fn buy(number: u32, account: u32, quantity: u32, price: u32) -> Call {
+    Call::Announce(order(Side::Buy, number, account, quantity, price))
+}
+
+pub(crate) fn sell(number: u32, account: u32, quantity: u32, price: u32) -> Call {
+    Call::Announce(order(Side::Sell, number, account, quantity, price))
+}
+
+pub(crate) fn withdraw(number: u32) -> Call {
+    Call::Withdraw { number }
+}
+
+/// A trade between orders 1 and 2.
+pub(crate) fn trade(number: u32, quantity: u32, price: u32) -> Call {
+    Call::Trade(Deal {
         number,
-        account,
-        security: SECURITY,
+        buy: 1,
+        sell: 2,
         quantity,
         price,
-    }
+    })
+}
+
+/// Opens cash and a holding for a buyer (701), who has the money, and a seller (802), who has the
+/// pieces.
+pub(crate) fn open_registers<S: Store>(
+    rt: &impl Abort,
+    engine: &mut Engine<S>,
+    money: u64,
+    pieces: u64,
+) {
+    let steps = [
+        (admit(SECURITY, 1_000), Ok(1)),
+        (cash(701, money), Ok(1)),
+        (holding(701, SECURITY, 0), Ok(2)),
+        (cash(802, 0), Ok(3)),
+        (holding(802, SECURITY, pieces), Ok(4)),
+    ];
+    make(rt, engine, &steps);
 }

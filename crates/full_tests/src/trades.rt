@@ -1,41 +1,31 @@
 //! The refusals of a trade, in the order of their checks. After each the market goes on as if nothing
 //! had been tried.
 
-use crate::market::{GOOD, check_rows, finish, prepare};
-use crate::support::{BLANK, RESERVE, check_trade};
+use crate::market::{GOOD, check_finished, finish, prepare};
+use crate::support::{RESERVE, make};
 use full::engine::Engine;
+use full_runs::call::Call;
 use orders::terms::Deal;
-use registers::store::Store;
+use registers::row::BLANK;
 use registers::table::RowStore;
 use std::process::Abort;
-use std::test::Fail;
-
-fn try_deal<S: Store>(
-    rt: &impl Abort,
-    engine: &mut Engine<S>,
-    deal: Deal,
-    number: u8,
-) -> Result<(), Fail> {
-    prepare(rt, engine)?;
-    check_trade(rt, engine, deal, Err(number))?;
-    finish(rt, engine)
-}
 
 /// Checks that the market refuses a deal with a number, and then finishes as it would have done.
-fn check_refused(rt: &impl Abort, deal: Deal, number: u8) -> Result<(), Fail> {
+fn check_refused(rt: &impl Abort, deal: Deal, number: u8) {
     let mut table = [BLANK; 5];
     let mut engine = Engine::new(RowStore::new(&mut table), RESERVE);
-    let result = try_deal(rt, &mut engine, deal, number);
+    prepare(rt, &mut engine);
+    make(rt, &mut engine, &[(Call::Trade(deal), Err(number))]);
+    finish(rt, &mut engine);
     let mut store = engine.into_store();
-    result?;
-    check_rows(rt, &mut store)
+    check_finished(rt, &mut store);
 }
 
 #[test]
-fn a_value_outside_its_range(rt: HostRuntime) -> Result<(), Fail> {
-    check_refused(&rt, Deal { number: 0, ..GOOD }, 5)?;
-    check_refused(&rt, Deal { buy: 0, ..GOOD }, 5)?;
-    check_refused(&rt, Deal { sell: 0, ..GOOD }, 5)?;
+fn a_value_outside_its_range(rt: HostRuntime) {
+    check_refused(&rt, Deal { number: 0, ..GOOD }, 5);
+    check_refused(&rt, Deal { buy: 0, ..GOOD }, 5);
+    check_refused(&rt, Deal { sell: 0, ..GOOD }, 5);
     check_refused(
         &rt,
         Deal {
@@ -43,7 +33,7 @@ fn a_value_outside_its_range(rt: HostRuntime) -> Result<(), Fail> {
             ..GOOD
         },
         5,
-    )?;
+    );
     check_refused(
         &rt,
         Deal {
@@ -51,8 +41,8 @@ fn a_value_outside_its_range(rt: HostRuntime) -> Result<(), Fail> {
             ..GOOD
         },
         5,
-    )?;
-    check_refused(&rt, Deal { price: 0, ..GOOD }, 5)?;
+    );
+    check_refused(&rt, Deal { price: 0, ..GOOD }, 5);
     check_refused(
         &rt,
         Deal {
@@ -60,23 +50,23 @@ fn a_value_outside_its_range(rt: HostRuntime) -> Result<(), Fail> {
             ..GOOD
         },
         5,
-    )
+    );
 }
 
 #[test]
-fn a_trade_number_not_above_the_last(rt: HostRuntime) -> Result<(), Fail> {
-    check_refused(&rt, Deal { number: 7, ..GOOD }, 12)?;
-    check_refused(&rt, Deal { number: 1, ..GOOD }, 12)
+fn a_trade_number_not_above_the_last(rt: HostRuntime) {
+    check_refused(&rt, Deal { number: 7, ..GOOD }, 12);
+    check_refused(&rt, Deal { number: 1, ..GOOD }, 12);
 }
 
 #[test]
-fn an_order_that_is_not_live(rt: HostRuntime) -> Result<(), Fail> {
-    check_refused(&rt, Deal { buy: 6, ..GOOD }, 11)?;
-    check_refused(&rt, Deal { sell: 6, ..GOOD }, 11)
+fn an_order_that_is_not_live(rt: HostRuntime) {
+    check_refused(&rt, Deal { buy: 6, ..GOOD }, 11);
+    check_refused(&rt, Deal { sell: 6, ..GOOD }, 11);
 }
 
 #[test]
-fn orders_on_the_wrong_sides(rt: HostRuntime) -> Result<(), Fail> {
+fn orders_on_the_wrong_sides(rt: HostRuntime) {
     check_refused(
         &rt,
         Deal {
@@ -85,13 +75,13 @@ fn orders_on_the_wrong_sides(rt: HostRuntime) -> Result<(), Fail> {
             ..GOOD
         },
         13,
-    )?;
-    check_refused(&rt, Deal { sell: 1, ..GOOD }, 13)?;
-    check_refused(&rt, Deal { buy: 2, ..GOOD }, 13)
+    );
+    check_refused(&rt, Deal { sell: 1, ..GOOD }, 13);
+    check_refused(&rt, Deal { buy: 2, ..GOOD }, 13);
 }
 
 #[test]
-fn orders_in_two_securities(rt: HostRuntime) -> Result<(), Fail> {
+fn orders_in_two_securities(rt: HostRuntime) {
     check_refused(
         &rt,
         Deal {
@@ -100,11 +90,11 @@ fn orders_in_two_securities(rt: HostRuntime) -> Result<(), Fail> {
             ..GOOD
         },
         14,
-    )
+    );
 }
 
 #[test]
-fn orders_of_one_account(rt: HostRuntime) -> Result<(), Fail> {
+fn orders_of_one_account(rt: HostRuntime) {
     check_refused(
         &rt,
         Deal {
@@ -113,11 +103,11 @@ fn orders_of_one_account(rt: HostRuntime) -> Result<(), Fail> {
             ..GOOD
         },
         15,
-    )
+    );
 }
 
 #[test]
-fn a_quantity_above_a_rest(rt: HostRuntime) -> Result<(), Fail> {
+fn a_quantity_above_a_rest(rt: HostRuntime) {
     check_refused(
         &rt,
         Deal {
@@ -125,7 +115,7 @@ fn a_quantity_above_a_rest(rt: HostRuntime) -> Result<(), Fail> {
             ..GOOD
         },
         16,
-    )?;
+    );
     check_refused(
         &rt,
         Deal {
@@ -134,11 +124,11 @@ fn a_quantity_above_a_rest(rt: HostRuntime) -> Result<(), Fail> {
             ..GOOD
         },
         16,
-    )
+    );
 }
 
 #[test]
-fn a_price_outside_the_orders(rt: HostRuntime) -> Result<(), Fail> {
+fn a_price_outside_the_orders(rt: HostRuntime) {
     check_refused(
         &rt,
         Deal {
@@ -146,7 +136,7 @@ fn a_price_outside_the_orders(rt: HostRuntime) -> Result<(), Fail> {
             ..GOOD
         },
         17,
-    )?;
+    );
     check_refused(
         &rt,
         Deal {
@@ -154,18 +144,18 @@ fn a_price_outside_the_orders(rt: HostRuntime) -> Result<(), Fail> {
             ..GOOD
         },
         17,
-    )
+    );
 }
 
 #[test]
-fn the_first_check_that_fails(rt: HostRuntime) -> Result<(), Fail> {
+fn the_first_check_that_fails(rt: HostRuntime) {
     let old = Deal { number: 7, ..GOOD };
     let price = Deal {
         price: 10_001,
         ..GOOD
     };
-    check_refused(&rt, Deal { quantity: 0, ..old }, 5)?;
-    check_refused(&rt, Deal { buy: 6, ..old }, 12)?;
+    check_refused(&rt, Deal { quantity: 0, ..old }, 5);
+    check_refused(&rt, Deal { buy: 6, ..old }, 12);
     check_refused(
         &rt,
         Deal {
@@ -174,10 +164,10 @@ fn the_first_check_that_fails(rt: HostRuntime) -> Result<(), Fail> {
             ..price
         },
         11,
-    )?;
-    check_refused(&rt, Deal { buy: 3, ..price }, 13)?;
-    check_refused(&rt, Deal { sell: 3, ..price }, 14)?;
-    check_refused(&rt, Deal { sell: 4, ..price }, 15)?;
+    );
+    check_refused(&rt, Deal { buy: 3, ..price }, 13);
+    check_refused(&rt, Deal { sell: 3, ..price }, 14);
+    check_refused(&rt, Deal { sell: 4, ..price }, 15);
     check_refused(
         &rt,
         Deal {
@@ -185,5 +175,5 @@ fn the_first_check_that_fails(rt: HostRuntime) -> Result<(), Fail> {
             ..price
         },
         16,
-    )
+    );
 }

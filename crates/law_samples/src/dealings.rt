@@ -3,10 +3,11 @@
 use full_runs::call::Call;
 use orders::order::Side;
 use orders::terms::{Announcement, Deal, Opening};
+use registers::row::Kind;
 
-fn open(kind: u8, code: u32, security: u16, limit: u64) -> Call {
+fn open(kind: Kind, code: u32, security: u16, limit: u64) -> Call {
     Call::Open(Opening {
-        kind,
+        kind: kind as u8,
         code,
         security,
         limit,
@@ -44,10 +45,10 @@ pub(crate) fn dealings() -> [Call; 16] {
             security: 5,
             ratio: 1000,
         },
-        open(1, 701, 0, 201),
-        open(2, 701, 5, 0),
-        open(1, 802, 0, 0),
-        open(2, 802, 5, 1000),
+        open(Kind::Cash, 701, 0, 201),
+        open(Kind::Holding, 701, 5, 0),
+        open(Kind::Cash, 802, 0, 0),
+        open(Kind::Holding, 802, 5, 1000),
         announce(Side::Buy, 1, 701, 2, 50),
         announce(Side::Sell, 2, 802, 102, 50),
         trade(1, 1, 1, 50),

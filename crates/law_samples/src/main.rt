@@ -51,13 +51,10 @@ fn show_register(rt: &HostRuntime, tally: &Tally, row: Row) -> io::Result<()> {
 
 fn show_run<S: Store + Drop>(rt: &HostRuntime, store: S, calls: &[Call]) -> io::Result<()> {
     let mut outcomes = [Ok(0); 16];
-    let mut engine = run(store, 200, calls, &mut outcomes);
-    let mut tally = Tally::new();
-    let shown = show_outcomes(rt, calls, &outcomes, &mut tally);
-    let told = show_rows(rt, &tally, &mut engine.store);
-    let _store = engine.into_store();
-    shown?;
-    told
+    let mut store = run(store, 200, calls, &mut outcomes).into_store();
+    let mut tally = Tally::new(rt.alloc());
+    show_outcomes(rt, calls, &outcomes, &mut tally)?;
+    show_rows(rt, &tally, &mut store)
 }
 
 fn show_outcomes(
@@ -66,26 +63,21 @@ fn show_outcomes(
     outcomes: &[Result<i64, Refusal>],
     tally: &mut Tally,
 ) -> io::Result<()> {
-    let count = calls.len().min(outcomes.len());
-    for i in 0..count {
-        let asked = Asked(calls[i]);
-        let told = Told(outcomes[i]);
-        println!(rt; "{asked}: {told}")?;
-        if outcomes[i].is_ok() {
-            tally.enter(calls[i]);
+    for (call, outcome) in calls.iter().zip(outcomes) {
+        println!(rt; "{}: {}", Asked(*call), Told(*outcome))?;
+        if outcome.is_ok() {
+            tally.enter(*call)?;
         }
     }
     Ok(())
 }
 
 fn show_rows<S: Store>(rt: &HostRuntime, tally: &Tally, store: &mut S) -> io::Result<()> {
-    for i in 0..8 {
-        if let Some(note) = tally.notes[i] {
-            show_note(rt, note)?;
-        }
+    for note in tally.notes.values() {
+        show_note(rt, *note)?;
     }
-    let count = store.count();
-    for place in 0..count {
+    // a store is asked through `&mut`, place by place
+    for place in 0..store.count() {
         if let Some(row) = store.row(place) {
             show_register(rt, tally, row)?;
         }

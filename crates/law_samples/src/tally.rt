@@ -3,10 +3,12 @@
 use full_runs::call::Call;
 use orders::blocks::{cash_key, holding_key};
 use orders::order::Side;
-use orders::terms::{Announcement, Opening};
+use orders::terms::Announcement;
 use registers::amounts::money;
 use registers::ranges::{Price, Quantity};
-use registers::row::Key;
+use registers::row::{Key, Kind};
+use std::alloc::{AllocError, Global};
+use std::collections::BTreeMap;
 
 /// An announced order, what was traded of it and what its withdrawal gave back.
 #[derive(Clone, Copy)]
@@ -24,25 +26,16 @@ pub struct Opened {
     pub times: u32,
 }
 
-/// The opened registers and the announced orders, in the order of their calls.
-#[derive(Clone, Copy)]
+/// The opened registers, in the order of their calls, and the announced orders by their numbers.
+#[derive(Drop)]
 pub struct Tally {
-    pub opened: [Option<Opened>; 8],
-    pub notes: [Option<Note>; 8],
+    pub opened: Vec<Opened>,
+    pub notes: BTreeMap<u32, Note>,
 }
 
-fn same_key(a: Key, b: Key) -> bool {
-    a.kind == b.kind && a.code == b.code && a.security == b.security
-}
-
-fn cost(quantity: u32, price: u32) -> u64 {
-    let Some(quantity) = Quantity::new(quantity) else {
-        return 0;
-    };
-    let Some(price) = Price::new(price) else {
-        return 0;
-    };
-    money(quantity, price).units
+/// What a quantity costs at a price, or `None` where one lies outside its range, as a rest of 0 does.
+fn cost(quantity: u32, price: u32) -> Option<u64> {
+    Some(money(Quantity::new(quantity)?, Price::new(price)?).units)
 }
 
 impl Note {
@@ -65,7 +58,7 @@ impl Note {
     /// The block of the order's rest.
     pub(crate) fn block(self) -> u64 {
         match self.announced.side {
-            Side::Buy => cost(self.rest(), self.announced.price),
+            Side::Buy => cost(self.rest(), self.announced.price).unwrap_or(0),
             Side::Sell => u64::from(self.rest()),
         }
     }
@@ -73,141 +66,99 @@ impl Note {
 
 impl Tally {
     /// The tally of no calls.
-    pub(crate) fn new() -> Tally {
+    pub(crate) fn new(alloc: Global) -> Tally {
         Tally {
-            opened: [None; 8],
-            notes: [None; 8],
+            opened: Vec::new(alloc),
+            notes: BTreeMap::new(alloc),
         }
     }
 
-    fn note_opening(&mut self, key: Key) {
-        for i in 0..8 {
-            if self.opened[i].is_none() {
-                self.opened[i] = Some(Opened {
-                    key,
-                    blocked: 0,
-                    times: 0,
-                });
-                return;
-            }
-        }
+    fn note_opening(&mut self, key: Key) -> Result<(), AllocError> {
+        self.opened.push(Opened {
+            key,
+            blocked: 0,
+            times: 0,
+        })?;
+        Ok(())
     }
 
-    fn note_order(&mut self, announced: Announcement) {
-        for i in 0..8 {
-            if self.notes[i].is_none() {
-                self.notes[i] = Some(Note {
-                    announced,
-                    traded: 0,
-                    back: 0,
-                });
-                return;
-            }
-        }
+    fn note_order(&mut self, announced: Announcement) -> Result<(), AllocError> {
+        let note = Note {
+            announced,
+            traded: 0,
+            back: 0,
+        };
+        self.notes.insert(announced.number, note)?;
+        Ok(())
     }
 
     fn note_time(&mut self, key: Key) {
-        for i in 0..8 {
-            if let Some(opened) = self.opened[i] {
-                if same_key(opened.key, key) {
-                    self.opened[i] = Some(Opened {
-                        key,
-                        blocked: opened.blocked,
-                        times: opened.times.saturating_add(1),
-                    });
-                }
+        for opened in &mut self.opened {
+            if opened.key == key {
+                opened.times = opened.times.saturating_add(1);
             }
         }
     }
 
     fn note_traded(&mut self, number: u32, quantity: u32) {
-        for i in 0..8 {
-            if let Some(note) = self.notes[i] {
-                if note.announced.number == number {
-                    let after = Note {
-                        announced: note.announced,
-                        traded: note.traded.saturating_add(quantity),
-                        back: note.back,
-                    };
-                    self.notes[i] = Some(after);
-                    if after.rest() > 0 {
-                        self.note_time(after.key());
-                    }
-                }
+        if let Some(note) = self.notes.get_mut(&number) {
+            note.traded = note.traded.saturating_add(quantity);
+            let after = *note;
+            if after.rest() > 0 {
+                self.note_time(after.key());
             }
         }
     }
 
     fn note_withdrawn(&mut self, number: u32) {
-        for i in 0..8 {
-            if let Some(note) = self.notes[i] {
-                if note.announced.number == number {
-                    self.notes[i] = Some(Note {
-                        announced: note.announced,
-                        traded: note.traded,
-                        back: note.back.saturating_add(note.rest()),
-                    });
-                }
-            }
+        if let Some(note) = self.notes.get_mut(&number) {
+            note.back = note.back.saturating_add(note.rest());
         }
     }
 
     /// Notes an accepted call.
-    pub(crate) fn enter(&mut self, call: Call) {
+    pub(crate) fn enter(&mut self, call: Call) -> Result<(), AllocError> {
         match call {
-            Call::Open(
-                Opening {
-                    kind,
-                    code,
-                    security,
-                    ..
-                },
-            ) => self.note_opening(Key {
-                kind,
-                code,
-                security,
+            Call::Open(opening) => self.note_opening(Key {
+                kind: opening.kind,
+                code: opening.code,
+                security: opening.security,
             }),
             Call::Announce(announced) => self.note_order(announced),
-            Call::Withdraw { number } => self.note_withdrawn(number),
+            Call::Withdraw { number } => {
+                self.note_withdrawn(number);
+                Ok(())
+            }
             Call::Trade(deal) => {
                 self.note_traded(deal.buy, deal.quantity);
                 self.note_traded(deal.sell, deal.quantity);
+                Ok(())
             }
-            Call::Admit { .. } => {}
-            Call::Credit { .. } => {}
+            Call::Admit { .. } | Call::Credit { .. } => Ok(()),
         }
     }
 
     /// The blocks of the rests on a register.
     pub(crate) fn live_blocks(&self, key: Key) -> u64 {
-        let mut sum: u64 = 0;
-        for i in 0..8 {
-            if let Some(note) = self.notes[i] {
-                if same_key(note.key(), key) {
-                    sum = sum.saturating_add(note.block());
-                }
-            }
-        }
-        sum
+        self.notes
+            .values()
+            .filter(|note| note.key() == key)
+            .fold(0, |sum: u64, note| sum.saturating_add(note.block()))
     }
 
     /// The register of a key as it was opened.
     pub(crate) fn opened_as(&self, key: Key) -> Option<Opened> {
-        let mut found = None;
-        for i in 0..8 {
-            if let Some(opened) = self.opened[i] {
-                if same_key(opened.key, key) {
-                    found = Some(opened);
-                }
-            }
-        }
-        found
+        self.opened.iter().copied().find(|opened| opened.key == key)
     }
 }
 
 impl Opened {
     /// By how many kopecks the blocked figure may be off: none for securities.
     pub(crate) fn allowance(self) -> u32 {
-        if self.key.kind == 1 { self.times } else { 0 }
+        if self.key.kind == Kind::Cash as u8 {
+            self.times
+        } else {
+            0
+        }
     }
 }

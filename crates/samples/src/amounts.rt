@@ -2,31 +2,41 @@
 
 use registers::amounts::{money, risk};
 use registers::ranges::{Price, Quantity, Ratio};
-use std::io;
+use std::{fmt, io};
 
-fn show_money(rt: &HostRuntime, count: u32, value: u32) -> io::Result<()> {
-    let Some(quantity) = Quantity::new(count) else {
-        return println!(rt; "quantity {count}: outside its range");
-    };
-    let Some(price) = Price::new(value) else {
-        return println!(rt; "price {value}: outside its range");
-    };
-    let units = money(quantity, price).units;
-    println!(rt; "Money({count}, {value}) = {units}")
+/// A number that lies outside the range of what it stands for.
+#[derive(Clone, Copy)]
+enum Outside {
+    Quantity(u32),
+    Price(u32),
+    Ratio(u32),
 }
 
-fn show_risk(rt: &HostRuntime, count: u32, value: u32, share: u32) -> io::Result<()> {
-    let Some(quantity) = Quantity::new(count) else {
-        return println!(rt; "quantity {count}: outside its range");
-    };
-    let Some(price) = Price::new(value) else {
-        return println!(rt; "price {value}: outside its range");
-    };
-    let Some(ratio) = Ratio::new(share) else {
-        return println!(rt; "ratio {share}: outside its range");
-    };
-    let units = risk(quantity, price, ratio).units;
-    println!(rt; "Risk({count}, {value}, {share}) = {units}")
+impl fmt::Display for Outside {
+    fn fmt<W: fmt::Write>(&self, f: &mut fmt::Formatter<W>) -> fmt::Result {
+        match *self {
+            Outside::Quantity(number) => write!(f, "quantity {number}: outside its range"),
+            Outside::Price(number) => write!(f, "price {number}: outside its range"),
+            Outside::Ratio(number) => write!(f, "ratio {number}: outside its range"),
+        }
+    }
+}
+
+fn bargain(count: u32, value: u32) -> Result<(Quantity, Price), Outside> {
+    let quantity = Quantity::new(count).ok_or(Outside::Quantity(count))?;
+    let price = Price::new(value).ok_or(Outside::Price(value))?;
+    Ok((quantity, price))
+}
+
+fn cost(count: u32, value: u32) -> Result<u64, Outside> {
+    let (quantity, price) = bargain(count, value)?;
+    Ok(money(quantity, price).units)
+}
+
+fn margin(count: u32, value: u32, share: u32) -> Result<u64, Outside> {
+    let (quantity, price) = bargain(count, value)?;
+    let ratio = Ratio::new(share).ok_or(Outside::Ratio(share))?;
+    Ok(risk(quantity, price, ratio).units)
 }
 
 /// Quantities and prices, and such on both sides of each range.
@@ -54,10 +64,16 @@ const RISKS: [(u32, u32, u32); 5] = [
 pub fn show(rt: &HostRuntime) -> io::Result<()> {
     println!(rt; "amounts")?;
     for (count, value) in BARGAINS {
-        show_money(rt, count, value)?;
+        match cost(count, value) {
+            Ok(units) => println!(rt; "Money({count}, {value}) = {units}")?,
+            Err(outside) => println!(rt; "{outside}")?,
+        }
     }
     for (count, value, share) in RISKS {
-        show_risk(rt, count, value, share)?;
+        match margin(count, value, share) {
+            Ok(units) => println!(rt; "Risk({count}, {value}, {share}) = {units}")?,
+            Err(outside) => println!(rt; "{outside}")?,
+        }
     }
     Ok(())
 }

@@ -8,9 +8,7 @@ use std::io;
 
 fn show_image(rt: &HostRuntime, what: &str, bytes: &mut [u8]) -> io::Result<()> {
     let mut store = ImageStore::new(bytes);
-    let count = store.count();
-    let room = store.room();
-    println!(rt; "{what}: count {count}, room {room}")?;
+    println!(rt; "{what}: count {}, room {}", store.count(), store.room())?;
     show_rows(rt, &mut store)
 }
 
@@ -31,7 +29,7 @@ pub fn show(rt: &HostRuntime) -> io::Result<()> {
     show_image(rt, "sound", &mut sound(1))?;
     let mut short = [b'L', b'R', b'I', 0, 1, 0];
     show_image(rt, "six bytes", &mut short)?;
-    let formatted = image::format(&mut short);
+    let formatted = image::format(&mut short).is_ok();
     print!(rt; "format six bytes: {formatted}, ")?;
     show_hex(rt, &short)?;
     let mut mark = sound(1);

@@ -1,96 +1,89 @@
 //! The same dealings over both stores.
 
 use dayfile::line::Line;
+use dayfile::refusal::LineRefusal;
+use orders::refusal::Refusal;
 use registers::fault::StoreFault;
 use registers::image;
 use registers::image::ImageStore;
-use registers::row::{BLANK, Figures, Key, Row};
+use registers::row::{BLANK, Figures, Key, Kind, Row};
 use registers::store::Store;
 use registers::table::RowStore;
-use std::io;
+use std::{fmt, io};
 
-fn show_answer(rt: &HostRuntime, answer: Result<(), StoreFault>) -> io::Result<()> {
-    match answer {
-        Ok(()) => println!(rt; ": ok"),
-        Err(fault) => {
-            let number = fault.number();
-            println!(rt; ": no {number} S")
+/// A key, to be printed.
+#[derive(Clone, Copy)]
+struct Shown(Key);
+
+/// What a store answered, to be printed.
+#[derive(Clone, Copy)]
+struct Told(Result<(), StoreFault>);
+
+impl fmt::Display for Shown {
+    fn fmt<W: fmt::Write>(&self, f: &mut fmt::Formatter<W>) -> fmt::Result {
+        let Key {
+            kind,
+            code,
+            security,
+        } = self.0;
+        write!(f, "{kind} {code} {security}")
+    }
+}
+
+impl fmt::Display for Told {
+    fn fmt<W: fmt::Write>(&self, f: &mut fmt::Formatter<W>) -> fmt::Result {
+        match self.0 {
+            Ok(()) => write!(f, "ok"),
+            Err(fault) => {
+                let refusal = LineRefusal::from(Refusal::from(fault));
+                write!(f, "no {refusal}")
+            }
         }
     }
 }
 
-fn show_row(rt: &HostRuntime, row: Row) -> io::Result<()> {
-    let line = Line::Register { row };
-    println!(rt; "{line}")
-}
-
 /// Prints every row of a store.
 pub fn show_rows<S: Store>(rt: &HostRuntime, store: &mut S) -> io::Result<()> {
-    let count = store.count();
-    for place in 0..count {
+    // a store is asked through `&mut`, place by place
+    for place in 0..store.count() {
         if let Some(row) = store.row(place) {
-            show_row(rt, row)?;
+            println!(rt; "{}", Line::Register { row })?;
         }
     }
     Ok(())
 }
 
-/// One step of the dealings.
-#[derive(Clone, Copy)]
-enum Step {
-    Counts,
-    Add(Key, Figures),
-    Put(usize, Figures),
-    Find(Key),
-    Row(usize),
+fn show_counts<S: Store>(rt: &HostRuntime, store: &mut S) -> io::Result<()> {
+    println!(rt; "count {}, room {}", store.count(), store.room())
 }
 
-fn show_key(rt: &HostRuntime, key: Key) -> io::Result<()> {
-    let Key {
-        kind,
-        code,
-        security,
-    } = key;
-    print!(rt; "{kind} {code} {security}")
+fn add<S: Store>(rt: &HostRuntime, store: &mut S, key: Key, figures: Figures) -> io::Result<()> {
+    let told = Told(store.add(Row { key, figures }));
+    println!(rt; "add {}: {told}", Shown(key))
 }
 
-fn show_place(rt: &HostRuntime, place: Option<usize>) -> io::Result<()> {
-    match place {
-        Some(place) => println!(rt; ": at {place}"),
-        None => println!(rt; ": none"),
+fn put<S: Store>(
+    rt: &HostRuntime,
+    store: &mut S,
+    place: usize,
+    figures: Figures,
+) -> io::Result<()> {
+    let told = Told(store.put(place, figures));
+    println!(rt; "put at {place}: {told}")
+}
+
+fn find<S: Store>(rt: &HostRuntime, store: &mut S, key: Key) -> io::Result<()> {
+    let key_text = Shown(key);
+    match store.find(key) {
+        Some(place) => println!(rt; "find {key_text}: at {place}"),
+        None => println!(rt; "find {key_text}: none"),
     }
 }
 
-fn show_row_at(rt: &HostRuntime, place: usize, row: Option<Row>) -> io::Result<()> {
-    print!(rt; "row at {place}: ")?;
-    match row {
-        Some(row) => show_row(rt, row),
-        None => println!(rt; "none"),
-    }
-}
-
-fn show_step<S: Store>(rt: &HostRuntime, store: &mut S, step: Step) -> io::Result<()> {
-    match step {
-        Step::Counts => {
-            let count = store.count();
-            let room = store.room();
-            println!(rt; "count {count}, room {room}")
-        }
-        Step::Add(key, figures) => {
-            print!(rt; "add ")?;
-            show_key(rt, key)?;
-            show_answer(rt, store.add(Row { key, figures }))
-        }
-        Step::Put(place, figures) => {
-            print!(rt; "put at {place}")?;
-            show_answer(rt, store.put(place, figures))
-        }
-        Step::Find(key) => {
-            print!(rt; "find ")?;
-            show_key(rt, key)?;
-            show_place(rt, store.find(key))
-        }
-        Step::Row(place) => show_row_at(rt, place, store.row(place)),
+fn look<S: Store>(rt: &HostRuntime, store: &mut S, place: usize) -> io::Result<()> {
+    match store.row(place) {
+        Some(row) => println!(rt; "row at {place}: {}", Line::Register { row }),
+        None => println!(rt; "row at {place}: none"),
     }
 }
 
@@ -102,44 +95,40 @@ fn figures(limit: i64, blocked: i64, third: i64) -> Figures {
     }
 }
 
-fn key(kind: u8, code: u32, security: u16) -> Key {
+fn key(kind: Kind, code: u32, security: u16) -> Key {
     Key {
-        kind,
+        kind: kind as u8,
         code,
         security,
     }
 }
 
-fn dealings() -> [Step; 13] {
-    [
-        Step::Counts,
-        Step::Add(key(1, 701, 0), figures(201, 0, 0)),
-        Step::Add(key(2, 701, 5), figures(10, 4, 0)),
-        Step::Add(key(1, 999_999, 0), figures(300, -1, 0)),
-        Step::Add(key(3, 7, 0), figures(1000, 400, 1000)),
-        Step::Counts,
-        Step::Put(0, figures(200, 1, 0)),
-        Step::Put(2, figures(1_000_000_000_000_000, -256, 65_536)),
-        Step::Put(3, figures(1, 1, 1)),
-        Step::Find(key(2, 701, 5)),
-        Step::Find(key(2, 701, 6)),
-        Step::Row(1),
-        Step::Row(3),
-    ]
-}
-
 fn deal<S: Store>(rt: &HostRuntime, store: &mut S) -> io::Result<()> {
-    for step in dealings() {
-        show_step(rt, store, step)?;
-    }
+    show_counts(rt, store)?;
+    add(rt, store, key(Kind::Cash, 701, 0), figures(201, 0, 0))?;
+    add(rt, store, key(Kind::Holding, 701, 5), figures(10, 4, 0))?;
+    add(rt, store, key(Kind::Cash, 999_999, 0), figures(300, -1, 0))?;
+    add(
+        rt,
+        store,
+        key(Kind::Participant, 7, 0),
+        figures(1000, 400, 1000),
+    )?;
+    show_counts(rt, store)?;
+    put(rt, store, 0, figures(200, 1, 0))?;
+    put(rt, store, 2, figures(1_000_000_000_000_000, -256, 65_536))?;
+    put(rt, store, 3, figures(1, 1, 1))?;
+    find(rt, store, key(Kind::Holding, 701, 5))?;
+    find(rt, store, key(Kind::Holding, 701, 6))?;
+    look(rt, store, 1)?;
+    look(rt, store, 3)?;
     show_rows(rt, store)
 }
 
 /// Prints bytes in hex, on one line.
 pub fn show_hex(rt: &HostRuntime, bytes: &[u8]) -> io::Result<()> {
     for byte in bytes {
-        let b = *byte;
-        print!(rt; "{b:02X}")?;
+        print!(rt; "{byte:02X}")?;
     }
     println!(rt; "")
 }
@@ -148,18 +137,16 @@ pub fn show_hex(rt: &HostRuntime, bytes: &[u8]) -> io::Result<()> {
 pub fn show(rt: &HostRuntime) -> io::Result<()> {
     println!(rt; "row store")?;
     let mut table = [BLANK; 3];
-    let mut rows = RowStore::new(&mut table);
-    deal(rt, &mut rows)?;
+    deal(rt, &mut RowStore::new(&mut table))?;
     println!(rt; "image store")?;
     let mut bytes = [0xEE; 105];
-    let formatted = image::format(&mut bytes);
+    let formatted = image::format(&mut bytes).is_ok();
     println!(rt; "format 105 bytes: {formatted}")?;
-    let mut store = ImageStore::new(&mut bytes);
-    deal(rt, &mut store)?;
+    deal(rt, &mut ImageStore::new(&mut bytes))?;
     println!(rt; "image")?;
-    show_hex(rt, &bytes[0..7])?;
-    show_hex(rt, &bytes[7..38])?;
-    show_hex(rt, &bytes[38..69])?;
-    show_hex(rt, &bytes[69..100])?;
-    show_hex(rt, &bytes[100..105])
+    show_hex(rt, &bytes[..7])?;
+    for row in bytes[7..100].chunks(31) {
+        show_hex(rt, row)?;
+    }
+    show_hex(rt, &bytes[100..])
 }
