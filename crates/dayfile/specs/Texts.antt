@@ -2,6 +2,7 @@
 use Rattle.std.specs.Prelude.{ℕ, List, [], ◌∷◌, ◌++◌, ℤ, Ok, Err, codes, decimal, encode_utf8, Result}
 use Rattle.std.specs.Fmt.{signed_decimal}
 use Rattle.registers.specs.declared.row.Row.{Row}
+use Rattle.registers.specs.Texts.{key_text, figures_text}
 use Rattle.orders.specs.Refusals.{letter_of}
 use Rattle.day_records.specs.Kinds as kinds
 use Rattle.dayfile.specs.declared.line.Line.{Line}
@@ -20,8 +21,7 @@ outcome_text (Err refusal) = codes " no " ++ refusal_text refusal
 
 -- a register: R, its key and its figures
 abbrev pub row_text : Row → List ℕ
-row_text r =
-    codes "R " ++ (decimal r.key.kind ++ (codes " " ++ (decimal r.key.code ++ (codes " " ++ (decimal r.key.security ++ (codes " " ++ (signed_decimal r.figures.limit ++ (codes " " ++ (signed_decimal r.figures.blocked ++ (codes " " ++ signed_decimal r.figures.third))))))))))
+row_text r = codes "R " ++ (key_text r.key ++ (codes " " ++ figures_text r.figures))
 
 abbrev pub line_text : Line → List ℕ
 line_text (Record number kind outcome) = decimal number ++ (codes " " ++ (encode_utf8 (kinds.letter_of kind) ++ outcome_text outcome))

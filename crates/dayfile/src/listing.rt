@@ -16,7 +16,7 @@ pub fn listing<S: Store + Drop>(heap: Global, store: S, file: &[u8]) -> Result<S
 {
     let mut text = String::new(heap);
     for line in Day::new(store, file) {
-        writeln!(text, "{line}").map_err(|_| AllocError)?;
+        writeln!(text, "{line}")?;
     }
     Ok(text)
 }

@@ -5,6 +5,7 @@ ghost use Rattle.dayfile.specs.Texts.{refusal_text, line_text};
 
 use crate::line::Line;
 use crate::refusal::LineRefusal;
+use registers::row::Row;
 use std::fmt;
 
 impl fmt::Display for LineRefusal {
@@ -40,13 +41,8 @@ impl fmt::Display for Line {
             } => write!(f, "{number} fault {refusal} {place}"),
             Line::End { count } => write!(f, "end {count}"),
             Line::Register { row } => {
-                let kind = row.key.kind;
-                let code = row.key.code;
-                let security = row.key.security;
-                let limit = row.figures.limit;
-                let blocked = row.figures.blocked;
-                let third = row.figures.third;
-                write!(f, "R {kind} {code} {security} {limit} {blocked} {third}")
+                let Row { key, figures } = row;
+                write!(f, "R {key} {figures}")
             }
         }
     }

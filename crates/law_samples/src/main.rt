@@ -13,7 +13,7 @@ use orders::refusal::Refusal;
 use printing::shown::{Asked, Told};
 use registers::image;
 use registers::image::ImageStore;
-use registers::row::{BLANK, Key, Row};
+use registers::row::{BLANK, Row};
 use registers::store::Store;
 use registers::table::RowStore;
 use std::io;
@@ -33,11 +33,7 @@ fn show_register(rt: &HostRuntime, tally: &Tally, row: Row) -> io::Result<()> {
     let Some(opened) = tally.opened_as(row.key) else {
         return println!(rt; "a row that nobody opened");
     };
-    let Key {
-        kind,
-        code,
-        security,
-    } = row.key;
+    let key = row.key;
     let limit = row.figures.limit;
     let blocked = row.figures.blocked;
     let opening = opened.blocked;
@@ -45,7 +41,7 @@ fn show_register(rt: &HostRuntime, tally: &Tally, row: Row) -> io::Result<()> {
     let difference = blocked.saturating_sub(opening).saturating_sub(live);
     let allowance = opened.allowance();
     println!(rt;
-        "register {kind} {code} {security}: limit {limit}, opening {opening}, live blocks {live}, blocked {blocked}, difference {difference}, allowance {allowance}"
+        "register {key}: limit {limit}, opening {opening}, live blocks {live}, blocked {blocked}, difference {difference}, allowance {allowance}"
     )
 }
 

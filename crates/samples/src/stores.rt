@@ -11,24 +11,9 @@ use registers::store::Store;
 use registers::table::RowStore;
 use std::{fmt, io};
 
-/// A key, to be printed.
-#[derive(Clone, Copy)]
-struct Shown(Key);
-
 /// What a store answered, to be printed.
 #[derive(Clone, Copy)]
 struct Told(Result<(), StoreFault>);
-
-impl fmt::Display for Shown {
-    fn fmt<W: fmt::Write>(&self, f: &mut fmt::Formatter<W>) -> fmt::Result {
-        let Key {
-            kind,
-            code,
-            security,
-        } = self.0;
-        write!(f, "{kind} {code} {security}")
-    }
-}
 
 impl fmt::Display for Told {
     fn fmt<W: fmt::Write>(&self, f: &mut fmt::Formatter<W>) -> fmt::Result {
@@ -59,7 +44,7 @@ fn show_counts<S: Store>(rt: &HostRuntime, store: &mut S) -> io::Result<()> {
 
 fn add<S: Store>(rt: &HostRuntime, store: &mut S, key: Key, figures: Figures) -> io::Result<()> {
     let told = Told(store.add(Row { key, figures }));
-    println!(rt; "add {}: {told}", Shown(key))
+    println!(rt; "add {key}: {told}")
 }
 
 fn put<S: Store>(
@@ -73,10 +58,9 @@ fn put<S: Store>(
 }
 
 fn find<S: Store>(rt: &HostRuntime, store: &mut S, key: Key) -> io::Result<()> {
-    let key_text = Shown(key);
     match store.find(key) {
-        Some(place) => println!(rt; "find {key_text}: at {place}"),
-        None => println!(rt; "find {key_text}: none"),
+        Some(place) => println!(rt; "find {key}: at {place}"),
+        None => println!(rt; "find {key}: none"),
     }
 }
 
