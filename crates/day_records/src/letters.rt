@@ -30,6 +30,7 @@ impl Kind {
     pub fn letter(self) -> char
         ensures { result ≡ letter_of self }
     {
+        // a match: letters beside the cases, where the numbers of characters would hide them
         match self {
             Kind::Admit => 'A',
             Kind::Open => 'O',
@@ -44,6 +45,8 @@ impl Kind {
     }
 
     /// The record of the kind with these fields.
+    // case by case, here and below: that each kind is a case which borrows its bytes is a form that the project
+    // fixes, so no field holds them
     pub(crate) fn record<'a>(self, body: &'a [u8]) -> Record<'a>
         ensures kind { kind_of result ≡ self }
         ensures body { body_of result ≡ body.now }

@@ -67,6 +67,7 @@ impl<'a, S: Store> Day<'a, S> {
     pub fn next_line(&mut self) -> Option<Line>
         ensures { Tells self.old result self.new }
     {
+        // a match: where a listing stands is a value, which a day keeps from line to line
         match self.stage {
             Stage::Header(fault) => {
                 self.stage = Stage::Records;

@@ -15,7 +15,7 @@ pub const RESERVE: u16 = 200;
 /// The security that most tests trade.
 pub const SECURITY: u16 = 5;
 
-/// A call, and what it should answer, or the number of its refusal.
+/// A call, and what it should answer, or the number of its refusal: the rules give numbers, and tests hold to them.
 pub type Step = (Call, Result<i64, u8>);
 
 /// A place of a store, and the figures that should stand there.

@@ -2,47 +2,15 @@
 
 use full_runs::call::Call;
 use orders::order::Side;
-use orders::terms::{Announcement, Deal, Opening};
+use printing::calls::{SECURITY, announce, open, trade};
 use registers::row::Kind;
-
-fn open(kind: Kind, code: u32, security: u16, limit: u64) -> Call {
-    Call::Open(Opening {
-        kind: kind as u8,
-        code,
-        security,
-        limit,
-        margin: 0,
-    })
-}
-
-fn announce(side: Side, number: u32, account: u32, quantity: u32, price: u32) -> Call {
-    Call::Announce(Announcement {
-        side,
-        mode: 1,
-        number,
-        account,
-        security: 5,
-        quantity,
-        price,
-    })
-}
-
-fn trade(number: u32, buy: u32, quantity: u32, price: u32) -> Call {
-    Call::Trade(Deal {
-        number,
-        buy,
-        sell: 2,
-        quantity,
-        price,
-    })
-}
 
 /// Two registers each of a buyer and a seller; three orders; trades that leave a rest and trades that
 /// do not; a withdrawal; and calls that are refused.
 pub(crate) fn dealings() -> [Call; 16] {
     [
         Call::Admit {
-            security: 5,
+            security: SECURITY,
             ratio: 1000,
         },
         open(Kind::Cash, 701, 0, 201),

@@ -1,5 +1,6 @@
-//! The text that programs print of a call and of its outcome.
+//! The calls of the sample dealings, and the text that programs print of a call and of its outcome.
 #![tactic(auto)]
 
+pub mod calls;
 pub mod shown;
 pub mod texts;

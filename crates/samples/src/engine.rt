@@ -5,7 +5,7 @@ use full::engine::Engine;
 use full_runs::call::Call;
 use full_runs::runs::carry_out;
 use orders::order::Side;
-use orders::terms::{Announcement, Deal, Opening};
+use printing::calls::{announce, open, trade};
 use printing::shown::{Asked, Told};
 use registers::image;
 use registers::image::ImageStore;
@@ -18,16 +18,6 @@ fn admit(security: u16, ratio: u16) -> Call {
     Call::Admit { security, ratio }
 }
 
-fn open(kind: Kind, code: u32, security: u16, limit: u64) -> Call {
-    Call::Open(Opening {
-        kind: kind as u8,
-        code,
-        security,
-        limit,
-        margin: 0,
-    })
-}
-
 fn credit(code: u32, security: u16, amount: u64) -> Call {
     Call::Credit {
         code,
@@ -36,31 +26,8 @@ fn credit(code: u32, security: u16, amount: u64) -> Call {
     }
 }
 
-fn announce(side: Side, number: u32, account: u32, quantity: u32, price: u32) -> Call {
-    Call::Announce(Announcement {
-        side,
-        mode: 1,
-        number,
-        account,
-        security: 5,
-        quantity,
-        price,
-    })
-}
-
 fn withdraw(number: u32) -> Call {
     Call::Withdraw { number }
-}
-
-/// A trade with order 2.
-fn trade(number: u32, buy: u32, quantity: u32, price: u32) -> Call {
-    Call::Trade(Deal {
-        number,
-        buy,
-        sell: 2,
-        quantity,
-        price,
-    })
 }
 
 /// Makes calls, and prints each with its answer.

@@ -1,0 +1,54 @@
+//! The calls of the sample dealings, in short.
+
+ghost use Rattle.std.specs.Prelude.{◌≡◌};
+ghost use Rattle.full_runs.specs.declared.call.Call.TheVariants.{Open, Announce, Trade};
+ghost use Rattle.printing.specs.Calls.{kind_number};
+
+use full_runs::call::Call;
+use orders::order::Side;
+use orders::terms::{Announcement, Deal, Opening};
+use registers::row::Kind;
+
+/// The security that the sample dealings trade.
+pub const SECURITY: u16 = 5;
+
+/// The opening of a register, without a margin.
+pub fn open(kind: Kind, code: u32, security: u16, limit: u64) -> Call
+    ensures { result ≡ Open (record { kind = kind_number kind; code = code; security = security; limit = limit; margin = 0 }) }
+{
+    Call::Open(Opening {
+        kind: kind as u8,
+        code,
+        security,
+        limit,
+        margin: 0,
+    })
+}
+
+/// The announcement of an order in security 5 with full collateral.
+pub fn announce(side: Side, number: u32, account: u32, quantity: u32, price: u32) -> Call
+    ensures { result ≡ Announce (record { side = side; mode = 1; number = number; account = account; security = 5; quantity = quantity; price = price }) }
+{
+    Call::Announce(Announcement {
+        side,
+        mode: 1,
+        number,
+        account,
+        security: SECURITY,
+        quantity,
+        price,
+    })
+}
+
+/// A trade of a purchase with the sale of number 2.
+pub fn trade(number: u32, buy: u32, quantity: u32, price: u32) -> Call
+    ensures { result ≡ Trade (record { number = number; buy = buy; sell = 2; quantity = quantity; price = price }) }
+{
+    Call::Trade(Deal {
+        number,
+        buy,
+        sell: 2,
+        quantity,
+        price,
+    })
+}
