@@ -1,5 +1,5 @@
 -- What the reader answers, as the definitions speak of it.
-use Rattle.std.specs.Prelude.{◌≡◌, ℕ, ◌^◌, ◌<◌, ◌≤◌, true, List, length, drop, is_some, Ok, Err, Option, Result}
+use Rattle.std.specs.Prelude.{◌≡◌, ℕ, ◌^◌, ◌<◌, ◌≤◌, List, length, drop, OnSome, Ok, Err, Option, Result}
 use Rattle.std.specs.Iterator.{YieldsFirstBy}
 use Rattle.std.specs.Option.{option_map}
 use Rattle.day_records.specs.declared.cursor.DayFile.{DayFile}
@@ -44,4 +44,4 @@ pub record Reads (before : Reader) (r : Option (Result Placed Misread)) (after :
   pub answer : told_as r ≡ item_next before
   pub left : after.place ≡ place_after (told_as r) before.place (length before.bytes.now)
   pub same : after.bytes.now ≡ before.bytes.now
-  pub ends : is_some r ≡ true → (before.place < after.place) × (after.place ≤ length before.bytes.now) × (length before.bytes.now < 2 ^ 64)
+  pub ends : OnSome r ((before.place < after.place) × (after.place ≤ length before.bytes.now) × (length before.bytes.now < 2 ^ 64))

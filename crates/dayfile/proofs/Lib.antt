@@ -1,3 +1,2 @@
-pub mod Beginnings
 pub mod Registers
 pub mod Writing

@@ -49,7 +49,7 @@ returns c =
         answer = at;
         left = left;
         same = refl;
-        ends = λ _. rw left ((step_told.ends refl).0, (step_told.ends refl).1, search rules);
+        ends = rw left ((step_told.ends refl).0, (step_told.ends refl).1, search rules);
       };
       goes = record { on = λ _. (tt, tt, omega (arith, ap length items)); keeps = tt; rests = λ _. tt };
     }
