@@ -2,8 +2,9 @@
 
 ghost use Rattle.std.specs.Prelude.{◌≡◌};
 ghost use Rattle.std.specs.Iterator.{item_count};
-ghost use Rattle.day_records.specs.Items.{item_at, header_of};
-ghost use Rattle.day_records.specs.Views.{told_as, header_as, Opened, items_left, Reads};
+ghost use Rattle.day_records.specs.Items.{begun, item_at, header_of};
+ghost use Rattle.day_records.specs.Kinds.{kind_for};
+ghost use Rattle.day_records.specs.Views.{item_as, told_as, header_as, Opened, items_left, Reads};
 
 use crate::cursor::{DayFile, Reader};
 use crate::fault::{FileFault, Misread};
@@ -37,6 +38,25 @@ pub fn open<'a>(file: &'a [u8]) -> Result<DayFile<'a>, FileFault>
     }
 }
 
+/// The record that begins with a letter at a place of the file, of the bytes behind the letter. Refuses a
+/// letter that no record begins with (31), and bytes that end within the record (32).
+fn placed<'a>(letter: u8, rest: &'a [u8], place: usize) -> Result<Placed<'a>, Misread>
+    ensures { item_as result ≡ begun (kind_for letter) place rest.now }
+{
+    let shape = shape(letter).ok_or(Misread {
+        fault: FileFault::UnknownLetter,
+        place,
+    })?;
+    let body = rest.get(..shape.length).ok_or(Misread {
+        fault: FileFault::CutShort,
+        place,
+    })?;
+    Ok(Placed {
+        record: shape.kind.record(body),
+        place,
+    })
+}
+
 /// The record that begins with the first of these bytes, which lies at a place of the file; the fault
 /// that it has; or `None` where there are no bytes.
 fn first<'a>(bytes: &'a [u8], place: usize) -> Option<Result<Placed<'a>, Misread>>
@@ -45,23 +65,7 @@ fn first<'a>(bytes: &'a [u8], place: usize) -> Option<Result<Placed<'a>, Misread
     let [letter, rest @ ..] = bytes else {
         return None;
     };
-    let Some(shape) = shape(*letter) else {
-        return Some(Err(Misread {
-            fault: FileFault::UnknownLetter,
-            place,
-        }));
-    };
-    let length = shape.length;
-    if rest.len() < length {
-        return Some(Err(Misread {
-            fault: FileFault::CutShort,
-            place,
-        }));
-    }
-    Some(Ok(Placed {
-        record: shape.kind.record(&rest[0..length]),
-        place,
-    }))
+    Some(placed(*letter, rest, place))
 }
 
 impl<'a> Iterator for Reader<'a> {

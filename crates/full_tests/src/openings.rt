@@ -40,7 +40,13 @@ fn openings_at_the_ends_of_their_ranges(rt: HostRuntime) {
     };
     let outside = [
         (Call::Open(Opening { kind: 0, ..good }), Err(5)),
-        (Call::Open(Opening { kind: 3, ..good }), Err(5)),
+        (
+            Call::Open(Opening {
+                kind: Kind::Participant as u8,
+                ..good
+            }),
+            Err(5),
+        ),
         (Call::Open(Opening { margin: 1, ..good }), Err(5)),
         (Call::Open(secured), Err(5)),
         (holding(701, 0, 0), Err(5)),

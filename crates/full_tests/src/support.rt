@@ -78,6 +78,9 @@ pub(crate) fn admit(security: u16, ratio: u16) -> Call {
     Call::Admit { security, ratio }
 }
 
+// cash and holding, buy and sell: short names for the cases of `opening` and `order`, which the tables of calls
+// are full of
+
 /// Opens an account's cash.
 pub(crate) fn cash(code: u32, limit: u64) -> Call {
     Call::Open(opening(Kind::Cash, code, 0, limit))
