@@ -1,16 +1,9 @@
-use Rattle.dayfile.proofs.Registers.{no_register, one_register}
+use Rattle.std.proofs.Common.{rules}
+use Rattle.dayfile.proofs.Places.{drop_none, drop_some}
 use Rattle.dayfile.proofs.day.Day.next_register.Goals as goal
 
-pub returns-in_err-row : goal.returns-in_err-row
-returns-in_err-row g c =
-    record {
-      lines = rw c.from_residual.ensures (no_register _ _ _ _ _ c.args.place c.requires c.in_err-row.ensures.kept c.in_err-row.ensures.answer);
-      state = c.in_err-row.ensures.kept;
-    }
+pub returns-in_err-row-clause-lines : goal.returns-in_err-row-clause-lines
+returns-in_err-row-clause-lines g c = search (rules, drop_none _ c.args.place c.in_err-row.ensures.answer)
 
-pub returns : goal.returns
-returns g c =
-    record {
-      lines = one_register _ _ _ _ _ c.args.place c.requires c.in_ok-row.row c.in_ok-row.ensures.kept c.in_ok-row.ensures.answer;
-      state = c.in_ok-row.ensures.kept;
-    }
+pub returns-clause-lines : goal.returns-clause-lines
+returns-clause-lines g c = search (rules, drop_some _ c.args.place c.in_ok-row.row c.in_ok-row.ensures.answer)
