@@ -1,34 +1,13 @@
 -- One step of reading, over plain values.
-use Rattle.std.proofs.Common.{◌≡◌, ℕ, zero, suc, ◌+◌, ◌-◌, ◌<◌, ◌≤◌, Bool, true, false, cond, ltb, List, [], ◌∷◌, ◌++◌, length, get_or, take, drop, is_some, Some, None, Option, sym, refl, ap, ◌∙◌, add-zero, arith, length-drop, drop-drop, ltb-false, le-ltb}
+use Rattle.std.proofs.Common.{◌≡◌, ℕ, zero, suc, ◌+◌, ◌<◌, ◌≤◌, Bool, true, false, cond, ltb, List, [], ◌∷◌, ◌++◌, length, take, drop, is_some, Some, None, Option, sym, refl, ap, ◌∙◌, add-zero, arith, length-drop, drop-drop, ltb-false}
 use lib.Seq.{drop-length}
-use Rattle.std.specs.Option.{option_map, option_to_list}
-use Rattle.std.proofs.lemmas.List.{take_rest, length-take-le}
+use Rattle.std.specs.Option.{option_to_list}
+use Rattle.std.proofs.lemmas.List.{length-take-le}
 use Rattle.day_records.specs.declared.fault.FileFault.{FileFault}
 use Rattle.day_records.specs.declared.fault.FileFault.TheVariants.{UnknownLetter, CutShort}
 use Rattle.day_records.specs.declared.kind.Kind.{Kind}
-use Rattle.day_records.specs.declared.kind.Shape.{Shape}
-use Rattle.day_records.specs.Kinds.{kind_for, length_of, shaped, shape_of}
+use Rattle.day_records.specs.Kinds.{kind_for, length_of}
 use Rattle.day_records.specs.Items.{Item, Seen, Bad, begun, item_at, place_after, items_from}
-
--- a record that stands whole, as the code has its parts
-module _ (place : ℕ) (sh : Shape) where
-  of_kind : (bs : List ℕ) (o : Option Kind) → Some sh ≡ option_map shaped o → sh.length ≤ length bs → ◌≡◌ {A = Item} (Seen sh.kind (take sh.length bs) place) (begun o place bs)
-  of_kind bs None e h = cc
-  of_kind bs (Some k) e h =
-      let is : sh ≡ shaped k = cc in
-      let n : sh.length ≡ length_of k = ap (λ (x : Shape). x.length) is in
-      let ki : sh.kind ≡ k = ap (λ (x : Shape). x.kind) is in
-      let t : ltb (length bs) (length_of k) ≡ false = le-ltb _ _ (omega arith) in
-      rw (t, ki, n)
-
-  pub stands : (s : List ℕ) (k : Kind) (body : List ℕ) → 0 < length s → Some sh ≡ shape_of (get_or s 0 0) → sh.length ≤ length (take (length s - 1) (drop 1 s)) → k ≡ sh.kind → body ≡ take (sh.length - 0) (take (length s - 1) (drop 1 s)) → ◌≡◌ {A = Option Item} (Some (Seen k body place)) (item_at place s)
-  stands [] k body some e h ki bi = absurd (omega arith)
-  stands (b ∷ bs) k body some e h ki bi =
-      let r = take_rest (b ∷ bs) 1 in
-      let h' : sh.length ≤ length bs = omega (arith, ap length r) in
-      let n : sh.length - 0 ≡ sh.length = omega arith in
-      let bi' : body ≡ take sh.length bs = bi ∙ ap (take (sh.length - 0)) r ∙ ap (λ (m : ℕ). take m bs) n in
-      rw (ki, bi') (ap Some (of_kind bs (kind_for b) e h'))
 
 -- skipping the fields of a record
 skips : (n p : ℕ) (s : List ℕ) → n ≤ length s → items_from n p s ≡ items_from 0 (p + n) (drop n s)

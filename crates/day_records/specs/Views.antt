@@ -1,5 +1,6 @@
 -- What the reader answers, as the definitions speak of it.
-use Rattle.std.specs.Prelude.{◌≡◌, ℕ, List, drop, Ok, Err, Option, Result}
+use Rattle.std.specs.Prelude.{◌≡◌, ℕ, ◌^◌, ◌<◌, ◌≤◌, List, length, drop, OnSome, Ok, Err, Option, Result}
+use Rattle.std.specs.Iterator.{YieldsFirstBy}
 use Rattle.std.specs.Option.{option_map}
 use Rattle.day_records.specs.declared.cursor.DayFile.{DayFile}
 use Rattle.day_records.specs.declared.cursor.Reader.{Reader}
@@ -7,7 +8,7 @@ use Rattle.day_records.specs.declared.fault.FileFault.{FileFault}
 use Rattle.day_records.specs.declared.fault.Misread.{Misread}
 use Rattle.day_records.specs.declared.placed.Placed.{Placed}
 use Rattle.day_records.specs.Kinds.{kind_of, body_of}
-use Rattle.day_records.specs.Items.{Item, Seen, Bad, item_at, items_from}
+use Rattle.day_records.specs.Items.{Item, Seen, Bad, item_at, place_after, items_from}
 
 -- the header's reserve or fault
 abbrev pub header_as : Result DayFile FileFault → Result ℕ FileFault
@@ -36,3 +37,11 @@ items_left r = items_from 0 r.place (drop r.place r.bytes.now)
 
 abbrev pub item_next : Reader → Option Item
 item_next r = item_at r.place (drop r.place r.bytes.now)
+
+-- one call of a reader: it answers the first of the items that were left, and leaves the others
+pub record Reads (before : Reader) (r : Option (Result Placed Misread)) (after : Reader) : Type 0 where
+  pub items : YieldsFirstBy item_as items_left before r after
+  pub answer : told_as r ≡ item_next before
+  pub left : after.place ≡ place_after (told_as r) before.place (length before.bytes.now)
+  pub same : after.bytes.now ≡ before.bytes.now
+  pub ends : OnSome r ((before.place < after.place) × (after.place ≤ length before.bytes.now) × (length before.bytes.now < 2 ^ 64))

@@ -1,10 +1,9 @@
 //! Reading a day file: the header, and then record by record.
 
-ghost use Rattle.std.specs.Prelude.{◌≡◌, ◌^◌, ◌<◌, ◌≤◌, true, ◌++◌, length, drop, is_some, ⊤};
-ghost use Rattle.std.specs.Iterator.{MakesProgress, YieldsFirstBy, item_count};
-ghost use Rattle.std.specs.Option.{option_to_list};
-ghost use Rattle.day_records.specs.Items.{item_at, place_after, items_from, header_of};
-ghost use Rattle.day_records.specs.Views.{item_as, items_left, item_next, told_as, header_as, Opened};
+ghost use Rattle.std.specs.Prelude.{◌≡◌};
+ghost use Rattle.std.specs.Iterator.{item_count};
+ghost use Rattle.day_records.specs.Items.{item_at, header_of};
+ghost use Rattle.day_records.specs.Views.{told_as, header_as, Opened, items_left, Reads};
 
 use crate::cursor::{DayFile, Reader};
 use crate::fault::{FileFault, Misread};
@@ -68,20 +67,13 @@ fn first<'a>(bytes: &'a [u8], place: usize) -> Option<Result<Placed<'a>, Misread
 impl<'a> Iterator for Reader<'a> {
     type Item = Result<Placed<'a>, Misread>;
 
-    ghost next_gives = { YieldsFirstBy item_as items_left };
+    ghost next_gives = { Reads };
 
     ghost remaining = { item_count items_left };
 
     /// The next record with its place, the fault that stops the reading, or `None` at the end of the
     /// file. After a fault nothing is left to read.
-    fn next(&mut self) -> Option<Result<Placed<'a>, Misread>>
-        ensures answer { told_as result ≡ item_next self.old }
-        ensures left { self.new.place ≡ place_after (told_as result) self.old.place (length self.old.bytes.now) }
-        ensures same { self.new.bytes.now ≡ self.old.bytes.now }
-        ensures ends { is_some result ≡ true → (self.old.place < self.new.place) × (self.new.place ≤ length self.old.bytes.now) × (length self.old.bytes.now < 2 ^ 64) }
-        ensures steps { YieldsFirstBy item_as items_left self.old result self.new }
-        ensures goes { MakesProgress (λ _. ⊤) (item_count items_left) self.old result self.new }
-    {
+    fn next(&mut self) -> Option<Result<Placed<'a>, Misread>> {
         let place = self.place;
         let bytes = self.bytes;
         if place >= bytes.len() {

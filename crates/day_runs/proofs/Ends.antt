@@ -1,20 +1,12 @@
 -- What a whole day comes to.
-use Rattle.std.proofs.Common.{◌≡◌, ℕ, List, [], ◌∷◌, take, drop, None, Ok, Err, Option, Result, sym, refl, ap, ◌∙◌, subst, append-nil, arith}
+use Rattle.std.proofs.Common.{◌≡◌, ℕ, List, [], take, sym, refl, append-nil}
 use Rattle.registers.specs.declared.row.Row.{Row}
-use Rattle.full.specs.Plans.{State, begin}
+use Rattle.full.specs.Plans.{State}
 use Rattle.full_runs.specs.Runs.{outcomes_of, state_after}
 use Rattle.full_runs.specs.Tally.{empty, tallied}
 use Rattle.full_runs.specs.Law.{Law}
 use Rattle.full_runs.proofs.Laws.{finished}
-use Rattle.day_records.specs.declared.fault.FileFault.{FileFault}
-use Rattle.day_records.specs.Items.{Item, item_at, items_from, header_of, items_behind}
-use Rattle.dayfile.specs.Lines.{reserve_in}
-use Rattle.day_runs.specs.Days.{calls_in, calls_of, reserve_of, begin_of}
-
--- where no item stands, none is left
-none_left : (p : ℕ) (s : List ℕ) → ◌≡◌ {A = Option Item} None (item_at p s) → items_from 0 p s ≡ []
-none_left p [] e = refl
-none_left p (b ∷ bs) e = absurd (let z : ◌≡◌ {A = ℕ} 0 1 = cc in omega arith)
+use Rattle.day_runs.specs.Days.{calls_of, reserve_of, begin_of}
 
 module _ (rows : List Row) (room : ℕ) (file : List ℕ) where
   -- the state and the law, once the state at the end is known
@@ -27,17 +19,3 @@ module _ (rows : List Row) (room : ℕ) (file : List ℕ) where
   ran left e =
       let f = finished rows room (reserve_of file) (calls_of file) [] (begin_of rows room file) left (outcomes_of (begin_of rows room file) (calls_of file)) refl (sym (append-nil _)) e in
       record { state = e; law = f.law; kept = f.kept }
-
-  -- a header with a fault leaves a new engine
-  pub unread : (f : FileFault) (s : State) → Err f ≡ header_of file → s ≡ begin rows room 0 → s ≡ state_after (begin_of rows room file) (calls_of file)
-  unread f s e b = subst (λ (h : Result ℕ FileFault). s ≡ state_after (begin rows room (reserve_in h)) (calls_in (items_behind h file))) e b
-
-  -- a new engine has the reserve of the header
-  pub begun : (reserve : ℕ) (s : State) → Ok reserve ≡ header_of file → s ≡ begin rows room reserve → s ≡ begin_of rows room file
-  begun reserve s e b = b ∙ ap (λ (h : Result ℕ FileFault). begin rows room (reserve_in h)) e
-
-  -- the state once nothing is left to read
-  pub ended : (s s0 : State) (p : ℕ) (bytes : List ℕ) → bytes ≡ file → ◌≡◌ {A = Option Item} None (item_at p (drop p bytes)) → state_after s (calls_in (items_from 0 p (drop p file))) ≡ state_after s0 (calls_of file) → s0 ≡ begin_of rows room file → s ≡ state_after (begin_of rows room file) (calls_of file)
-  ended s s0 p bytes same none left b =
-      let e : items_from 0 p (drop p file) ≡ [] = none_left p (drop p file) (none ∙ ap (λ (x : List ℕ). item_at p (drop p x)) same) in
-      sym (ap (λ (is : List Item). state_after s (calls_in is)) e) ∙ left ∙ ap (λ (t : State). state_after t (calls_of file)) b

@@ -27,8 +27,7 @@ pub fn run_day<S: Store>(store: S, file: &[u8]) -> Engine<S>
         Err(_) => return Engine::new(store, 0),
     };
     let mut engine = Engine::new(store, day.reserve);
-    let mut records = day.records;
-    while let Some(told) = records.next() {
+    for told in day.records {
         if let Ok(read) = told {
             let _ = carry_out(&mut engine, read.record);
         }

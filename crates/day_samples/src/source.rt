@@ -28,12 +28,9 @@ pub(crate) fn bytes_of(heap: Global, source: &[u8]) -> Result<Vec<u8>, AllocErro
         let Some(digit) = digit_of(*letter) else {
             continue;
         };
-        match high {
+        match high.take() {
             None => high = Some(digit),
-            Some(first) => {
-                bytes.push((first & 15) * 16 + (digit & 15))?;
-                high = None;
-            }
+            Some(first) => bytes.push((first << 4) | digit)?,
         }
     }
     Ok(bytes)

@@ -1,9 +1,10 @@
 -- The lines of a day that are still to be told.
-use Rattle.std.specs.Prelude.{ℕ, List, ◌∷◌, map, drop, Some, None, Option}
+use Rattle.std.specs.Prelude.{◌≡◌, ℕ, List, ◌∷◌, map, drop, Some, None, Option}
+use Rattle.std.specs.Iterator.{YieldsFirst}
 use Rattle.registers.specs.declared.store.Store.{Ghosts}
 use Rattle.full.specs.Plans.{State}
 use Rattle.day_records.specs.Items.{Item, Seen, Bad}
-use Rattle.day_records.specs.Views.{items_left}
+use Rattle.day_records.specs.Views.{items_left, item_next}
 use Rattle.dayfile.specs.declared.day.Stage.{Stage}
 use Rattle.dayfile.specs.declared.day.Stage.TheVariants.{Header, Records, Registers}
 use Rattle.dayfile.specs.declared.day.Day.{Day}
@@ -29,3 +30,8 @@ told (Registers place) s count items = map Register (drop place s.rows)
 
 abbrev pub lines_left : {S : Type 0} {store : Ghosts S} → Day S store → List Line
 lines_left d = told d.stage d.engine.state d.count (items_left d.records)
+
+-- one call of a day: it tells the first of the lines that were left, and leaves the others
+pub record Tells {S : Type 0} {store : Ghosts S} (before : Day S store) (r : Option Line) (after : Day S store) : Type 0 where
+  pub lines : YieldsFirst lines_left before r after
+  pub state : after.engine.state ≡ left_by before.stage (item_next before.records) before.engine.state

@@ -1,6 +1,5 @@
 -- The text of the lines of a listing.
-use Rattle.std.specs.Prelude.{ℕ, List, [], ◌∷◌, ◌++◌, ℤ, Ok, Err, codes, decimal, Result}
-use Rattle.std.proofs.Math.Utf8.{encode}
+use Rattle.std.specs.Prelude.{ℕ, List, [], ◌∷◌, ◌++◌, ℤ, Ok, Err, codes, decimal, encode_utf8, Result}
 use Rattle.std.specs.Fmt.{signed_decimal}
 use Rattle.registers.specs.declared.row.Row.{Row}
 use Rattle.orders.specs.Refusals.{letter_of}
@@ -12,7 +11,7 @@ use Rattle.dayfile.specs.Calls.{line_number, line_layer}
 
 -- a refusal: its number and the letter of its layer
 abbrev pub refusal_text : LineRefusal → List ℕ
-refusal_text r = decimal (line_number r) ++ (codes " " ++ encode (letter_of (line_layer r)))
+refusal_text r = decimal (line_number r) ++ (codes " " ++ encode_utf8 (letter_of (line_layer r)))
 
 -- what came of a record: ok and the answer, or no and the refusal
 abbrev pub outcome_text : Result ℤ LineRefusal → List ℕ
@@ -25,7 +24,7 @@ row_text r =
     codes "R " ++ (decimal r.key.kind ++ (codes " " ++ (decimal r.key.code ++ (codes " " ++ (decimal r.key.security ++ (codes " " ++ (signed_decimal r.figures.limit ++ (codes " " ++ (signed_decimal r.figures.blocked ++ (codes " " ++ signed_decimal r.figures.third))))))))))
 
 abbrev pub line_text : Line → List ℕ
-line_text (Record number kind outcome) = decimal number ++ (codes " " ++ (encode (kinds.letter_of kind) ++ outcome_text outcome))
+line_text (Record number kind outcome) = decimal number ++ (codes " " ++ (encode_utf8 (kinds.letter_of kind) ++ outcome_text outcome))
 line_text (Fault number refusal place) = decimal number ++ (codes " fault " ++ (refusal_text refusal ++ (codes " " ++ decimal place)))
 line_text (End count) = codes "end " ++ decimal count
 line_text (Register row) = row_text row

@@ -1,6 +1,6 @@
 //! Where the listing of a day stands.
 
-ghost use Rattle.std.specs.Prelude.{◌≤◌};
+ghost use Rattle.std.specs.Prelude.{◌≡◌, ◌≤◌};
 
 use day_records::cursor::Reader;
 use day_records::fault::FileFault;
@@ -8,7 +8,7 @@ use full::engine::Engine;
 use registers::store::Store;
 
 /// What a listing tells next.
-#[derive(Clone, Copy)]
+#[derive(Clone, Copy, PartialEq, Eq, Debug)]
 pub enum Stage {
     /// A fault of the file as a whole.
     Header(FileFault),
@@ -26,4 +26,26 @@ pub struct Day<'a, S: Store> {
     pub count: usize,
     pub stage: Stage,
     ghost counted: { count ≤ records.place },
+}
+
+impl<S: Store> Day<'_, S> {
+    /// Ends the day, and hands its store out again.
+    pub fn into_store(self) -> S
+        ensures { result ≡ self.entry.engine.store }
+    {
+        let Day {
+            engine,
+            records: _,
+            count: _,
+            stage: _,
+        } = self;
+        engine.into_store()
+    }
+}
+
+/// A day over a store that may be let go may be let go itself.
+impl<S: Store + Drop> Drop for Day<'_, S> {
+    fn drop(self) {
+        let _store = self.into_store();
+    }
 }

@@ -1,13 +1,14 @@
 //! A day carried out, line by line.
 
 ghost use Rattle.std.specs.Prelude.{◌≡◌, ◌∷◌, ◌<◌, drop, OnSome};
+ghost use Rattle.std.specs.Iterator.{YieldsFirst, item_count};
 ghost use Rattle.std.specs.List.{slice_get};
 ghost use Rattle.full.specs.Plans.{begin};
 ghost use Rattle.dayfile.specs.declared.day.Stage.TheVariants.{Records, Registers};
 ghost use Rattle.day_records.specs.Items.{header_of};
 ghost use Rattle.day_records.specs.Views.{item_next};
 ghost use Rattle.dayfile.specs.Lines.{lines_of, reserve_in};
-ghost use Rattle.dayfile.specs.Days.{lines_left, left_by};
+ghost use Rattle.dayfile.specs.Days.{lines_left, left_by, Tells};
 
 use crate::carrying::carry_out;
 use crate::day::{Day, Stage};
@@ -63,10 +64,8 @@ impl<'a, S: Store> Day<'a, S> {
 
     /// The next line of the listing, or `None` after the last. A record is carried out when its line
     /// is told; after the records and a fault, if there is one, come the end and the registers.
-    pub fn next(&mut self) -> Option<Line>
-        ensures answer { result ≡ slice_get (lines_left self.old) 0 }
-        ensures left { lines_left self.new ≡ drop 1 (lines_left self.old) }
-        ensures state { self.new.engine.state ≡ left_by self.old.stage (item_next self.old.records) self.old.engine.state }
+    pub fn next_line(&mut self) -> Option<Line>
+        ensures { Tells self.old result self.new }
     {
         match self.stage {
             Stage::Header(fault) => {
@@ -80,19 +79,6 @@ impl<'a, S: Store> Day<'a, S> {
             Stage::Records => Some(self.next_record()),
             Stage::Registers(place) => self.next_register(place),
         }
-    }
-
-    /// Ends the day, and hands its store out again.
-    pub fn into_store(self) -> S
-        ensures { result ≡ self.entry.engine.store }
-    {
-        let Day {
-            engine,
-            records: _,
-            count: _,
-            stage: _,
-        } = self;
-        engine.into_store()
     }
 
     /// The line of the next record, or the end.
@@ -127,14 +113,24 @@ impl<'a, S: Store> Day<'a, S> {
     /// The line of the register at a place.
     fn next_register(&mut self, place: usize) -> Option<Line>
         requires { self.old.stage ≡ Registers place }
-        ensures answer { result ≡ slice_get (lines_left self.old) 0 }
-        ensures left { lines_left self.new ≡ drop 1 (lines_left self.old) }
+        ensures lines { YieldsFirst lines_left self.old result self.new }
         ensures state { self.new.engine.state ≡ self.old.engine.state }
     {
-        let Some(row) = row_at(&mut self.engine, place) else {
-            return None;
-        };
+        let row = row_at(&mut self.engine, place)?;
         self.stage = Stage::Registers(place + 1);
         Some(Line::Register { row })
+    }
+}
+
+impl<S: Store + Drop> Iterator for Day<'_, S> {
+    type Item = Line;
+
+    ghost next_gives = { Tells };
+
+    ghost remaining = { item_count lines_left };
+
+    /// The next line of the listing, as `next_line` tells it.
+    fn next(&mut self) -> Option<Line> {
+        self.next_line()
     }
 }

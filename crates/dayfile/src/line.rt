@@ -5,7 +5,7 @@ use day_records::kind::Kind;
 use registers::row::Row;
 
 /// One line of the listing of a day.
-#[derive(Clone, Copy)]
+#[derive(Clone, Copy, PartialEq, Eq, Debug)]
 pub enum Line {
     /// A record that was read, by its number, and what came of it: the engine's answer or a refusal.
     Record {

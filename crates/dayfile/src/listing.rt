@@ -1,24 +1,12 @@
 //! The listing of a whole day as text.
 
-ghost use Rattle.std.specs.Prelude.{◌≡◌, ◌++◌, IfOk, string_bytes, OnOk};
-ghost use Rattle.dayfile.specs.Days.{lines_left};
+ghost use Rattle.std.specs.Prelude.{◌≡◌, IfOk, string_bytes};
 ghost use Rattle.dayfile.specs.Lines.{lines_of};
 ghost use Rattle.dayfile.specs.Texts.{listing_text};
 
 use crate::day::Day;
 use registers::store::Store;
 use std::alloc::{AllocError, Global};
-use std::fmt;
-
-/// Carries out what is left of a day, and writes its lines behind a text.
-fn write_lines<S: Store>(day: &mut Day<'_, S>, text: &mut String) -> fmt::Result
-    ensures { OnOk result (string_bytes text.new ≡ string_bytes text.old ++ listing_text (lines_left day.old)) }
-{
-    while let Some(line) = day.next() {
-        writeln!(text, "{line}")?;
-    }
-    Ok(())
-}
 
 /// The listing of a day file, carried out by a new engine over a store. Any bytes have one: a file that
 /// cannot be read to its end has a line that says where and why. `AllocError` where memory does not
@@ -27,11 +15,8 @@ pub fn listing<S: Store + Drop>(heap: Global, store: S, file: &[u8]) -> Result<S
     ensures { IfOk result (λ t. string_bytes t ≡ listing_text (lines_of (S.Store.rows store) (S.Store.capacity store) file.now)) }
 {
     let mut text = String::new(heap);
-    let mut day = Day::new(store, file);
-    let written = write_lines(&mut day, &mut text);
-    let _store = day.into_store();
-    match written {
-        Ok(()) => Ok(text),
-        Err(_) => Err(AllocError),
+    for line in Day::new(store, file) {
+        writeln!(text, "{line}").map_err(|_| AllocError)?;
     }
+    Ok(text)
 }

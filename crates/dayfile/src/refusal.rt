@@ -8,7 +8,7 @@ use orders::refusal::Refusal;
 
 /// A refusal that a line of the listing tells. The engine's refusal is carried whole, and a store's
 /// fault within it.
-#[derive(Clone, Copy)]
+#[derive(Clone, Copy, PartialEq, Eq, Debug)]
 pub enum LineRefusal {
     /// The engine refused the record.
     Engine(Refusal),

@@ -6,18 +6,13 @@ use std::test::Fail;
 
 /// What the first `length` bytes of the day are listed as.
 fn expected(length: usize) -> &'static str {
-    if length < 7 {
-        "1 fault 33 F 0\nend 0\n"
-    } else if length == 7 {
-        "end 0\n"
-    } else if length < 31 {
-        "1 fault 32 F 7\nend 0\n"
-    } else if length == 31 {
-        "1 O ok 1\nend 1\nR 1 701 0 201 0 0\n"
-    } else if length < 36 {
-        "1 O ok 1\n2 fault 32 F 31\nend 1\nR 1 701 0 201 0 0\n"
-    } else {
-        "1 O ok 1\n2 W no 11 L\nend 2\nR 1 701 0 201 0 0\n"
+    match length {
+        0..=6 => "1 fault 33 F 0\nend 0\n",
+        7 => "end 0\n",
+        8..=30 => "1 fault 32 F 7\nend 0\n",
+        31 => "1 O ok 1\nend 1\nR 1 701 0 201 0 0\n",
+        32..=35 => "1 O ok 1\n2 fault 32 F 31\nend 1\nR 1 701 0 201 0 0\n",
+        _ => "1 O ok 1\n2 W no 11 L\nend 2\nR 1 701 0 201 0 0\n",
     }
 }
 
@@ -31,19 +26,16 @@ fn a_day_cut_at_every_byte(rt: HostRuntime) -> Result<(), Fail> {
 
 /// A file of a length: the header, and then withdrawals of order 0, of which the last may be cut.
 fn withdrawals(heap: Global, length: usize) -> Result<Vec<u8>, AllocError> {
-    let mut file = Vec::new(heap);
-    for place in 0..length {
-        let byte = match place {
+    (0..length)
+        .map(|place| match place {
             0 => b'L',
             1 => b'R',
             2 => b'D',
             4 => 1,
             _ if place > 6 && place % 5 == 2 => b'W',
             _ => 0,
-        };
-        file.push(byte)?;
-    }
-    Ok(file)
+        })
+        .collect(heap)
 }
 
 /// 65,536 bytes are the header, 13,105 withdrawals and 4 bytes of one more, which begins at 65,532.

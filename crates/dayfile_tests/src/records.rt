@@ -1,14 +1,14 @@
 //! Letters, records and what they ask for.
 
 use crate::support::{DAY, check_listing};
-use day_records::fault::FileFault;
+use day_records::fault::{FileFault, Misread};
 use day_records::letters::shape;
+use day_records::placed::Placed;
 use day_records::record::Record;
 use day_records::whole::read_all;
 use dayfile::calls::call;
 use dayfile::refusal::LineRefusal;
 use full_runs::call::Call;
-use std::process::Abort;
 use std::test::Fail;
 
 /// Every byte as the letter of a record that has no fields: nine are cut short, all others unknown.
@@ -29,7 +29,7 @@ fn every_byte_as_a_letter(rt: HostRuntime) -> Result<(), Fail> {
 
 /// The letters A, O, C, H, B, S, W, T and D have 4, 23, 14, 10, 19, 19, 4, 20 and 10 bytes of fields.
 #[test]
-fn lengths_of_records(rt: HostRuntime) -> Result<(), Fail> {
+fn lengths_of_records(rt: HostRuntime) {
     for (letter, length) in [
         (b'A', 4),
         (b'O', 23),
@@ -41,74 +41,60 @@ fn lengths_of_records(rt: HostRuntime) -> Result<(), Fail> {
         (b'T', 20),
         (b'D', 10),
     ] {
-        match shape(letter) {
-            Some(shape) => {
-                assert_eq!(rt; shape.length, length);
-                assert_eq!(rt; shape.kind.letter(), char::from(letter));
-            }
-            None => return Err(Fail::new("no such letter")),
-        }
+        assert_eq!(rt;
+            shape(letter).map(|shape| (shape.length, shape.kind.letter())),
+            Some((length, char::from(letter)))
+        );
     }
-    Ok(())
 }
 
-/// The two records of the day, by their places and the lengths of their fields.
+/// The two records of the day, by their places and their fields.
 #[test]
 fn records_of_a_day(rt: HostRuntime) -> Result<(), Fail> {
     let items = read_all(rt.alloc(), &DAY)?;
-    assert!(rt; items.len() == 2);
-    match items[0] {
-        Ok(read) => assert_eq!(rt; (read.place, read.record.length()), (7, 23)),
-        Err(_) => return Err(Fail::new("a record stands there")),
-    }
-    match items[1] {
-        Ok(read) => {
-            assert_eq!(rt; (read.place, read.record.kind().letter()), (31, 'W'));
-            Ok(())
-        },
-        Err(_) => Err(Fail::new("a record stands there")),
-    }
+    let expected = [
+        Ok(Placed {
+            record: Record::Open(&DAY[8..31]),
+            place: 7,
+        }),
+        Ok(Placed {
+            record: Record::Withdraw(&DAY[32..36]),
+            place: 31,
+        }),
+    ];
+    assert_eq!(rt; items.as_slice(), expected.as_slice());
+    Ok(())
 }
 
 /// A fault of the header stands alone, at place 0.
 #[test]
 fn fault_of_the_header(rt: HostRuntime) -> Result<(), Fail> {
     let items = read_all(rt.alloc(), b"LRD")?;
-    assert!(rt; items.len() == 1);
-    match items[0] {
-        Err(misread) => {
-            assert_eq!(rt; (misread.fault.number(), misread.place), (33, 0));
-            Ok(())
-        },
-        Ok(_) => Err(Fail::new("there is no record")),
-    }
+    let expected = [Err(Misread {
+        fault: FileFault::BadHeader,
+        place: 0,
+    })];
+    assert_eq!(rt; items.as_slice(), expected.as_slice());
+    Ok(())
 }
 
-fn check_refused(
-    rt: &impl Abort,
-    answer: Result<Call, LineRefusal>,
-    number: u8,
-    layer: char,
-) -> Result<(), Fail> {
-    match answer {
-        Ok(_) => Err(Fail::new("it has to be refused")),
-        Err(refusal) => {
-            assert_eq!(rt;
-                (refusal.number(), refusal.layer().letter()),
-                (number, layer)
-            );
-            Ok(())
-        },
-    }
+/// The number and the layer of a refusal, or `None` where there is a call.
+fn refused(answer: Result<Call, LineRefusal>) -> Option<(u8, char)> {
+    answer
+        .err()
+        .map(|refusal| (refusal.number(), refusal.layer().letter()))
 }
 
 /// Fields that are cut short give no call, and this level has none for posting and debiting.
 #[test]
-fn records_without_a_call(rt: HostRuntime) -> Result<(), Fail> {
-    check_refused(&rt, call(Record::Withdraw(&[0, 0, 0])), 32, 'F')?;
-    check_refused(&rt, call(Record::Open(&DAY[8..30])), 32, 'F')?;
-    check_refused(&rt, call(Record::Post(&[0; 10])), 5, 'L')?;
-    check_refused(&rt, call(Record::Debit(&[0; 10])), 5, 'L')
+fn records_without_a_call(rt: HostRuntime) {
+    assert_eq!(rt;
+        refused(call(Record::Withdraw(&[0, 0, 0]))),
+        Some((32, 'F'))
+    );
+    assert_eq!(rt; refused(call(Record::Open(&DAY[8..30]))), Some((32, 'F')));
+    assert_eq!(rt; refused(call(Record::Post(&[0; 10]))), Some((5, 'L')));
+    assert_eq!(rt; refused(call(Record::Debit(&[0; 10]))), Some((5, 'L')));
 }
 
 #[test]

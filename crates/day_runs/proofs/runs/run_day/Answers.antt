@@ -1,13 +1,13 @@
-use Rattle.day_runs.proofs.Ends.{ran, unread, begun, ended}
+use Rattle.std.proofs.Common.{rules}
+use Rattle.day_runs.proofs.Ends.{ran}
 use Rattle.day_runs.proofs.runs.run_day.Goals as goal
 
 pub returns-in-Err : goal.returns-in-Err
 returns-in-Err g c =
-    let f = ran _ _ c.args.file.now _ (unread _ _ c.args.file.now _ _ c.in-Err.ensures.header c.new.ensures.state) in
+    let f = ran (g.S.Store.rows c.args.store) (g.S.Store.capacity c.args.store) c.args.file.now c.new.result.state (search rules) in
     record { left = f.state; law = f.law; kept = f.kept }
 
 pub returns : goal.returns
 returns g c =
-    let b = begun _ _ c.args.file.now c.in-Ok.day.reserve _ c.in-Ok.ensures.header c.new-engine.ensures.state in
-    let f = ran _ _ c.args.file.now _ (ended _ _ c.args.file.now _ _ c.loop-told.records.place _ c.loop-told.invariant.0 c.in_default.ensures.answer c.loop-told.invariant.1 b) in
+    let f = ran (g.S.Store.rows c.args.store) (g.S.Store.capacity c.args.store) c.args.file.now c.loop-told.engine.state (search rules) in
     record { left = f.state; law = f.law; kept = f.kept }

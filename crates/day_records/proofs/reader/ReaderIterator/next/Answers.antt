@@ -12,11 +12,13 @@ pub returns-then-place-bytes : goal.returns-then-place-bytes
 returns-then-place-bytes c =
     let none : drop c.args.self.now.place c.args.self.now.bytes.now ≡ [] = drop_all c.args.self.now.place c.args.self.now.bytes.now c.if-place-bytes.true in
     record {
-      answer = rw none;
-      left = search rules;
-      same = search rules;
-      ends = search rules;
-      steps = rw none (refl, refl);
+      steps = record {
+        items = rw none (refl, refl);
+        answer = rw none;
+        left = search rules;
+        same = search rules;
+        ends = search rules;
+      };
       goes = search rules;
     }
 
@@ -42,10 +44,12 @@ returns c =
     let step_told : Step s p (told_as (Some told)) = rw at (step s p) in
     let items : items_left c.args.self.now ≡ item_as told ∷ items_from 0 c.match-told.self (drop c.match-told.self s) = rw left step_told.items in
     record {
-      answer = at;
-      left = left;
-      same = refl;
-      ends = λ _. rw left ((step_told.ends refl).0, (step_told.ends refl).1, search rules);
-      steps = items;
+      steps = record {
+        items = items;
+        answer = at;
+        left = left;
+        same = refl;
+        ends = rw left ((step_told.ends refl).0, (step_told.ends refl).1, search rules);
+      };
       goes = record { on = λ _. (tt, tt, omega (arith, ap length items)); keeps = tt; rests = λ _. tt };
     }
