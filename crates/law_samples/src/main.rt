@@ -19,13 +19,13 @@ use registers::table::RowStore;
 use std::io;
 
 fn show_note(rt: &HostRuntime, note: Note) -> io::Result<()> {
-    let number = note.announced.number;
-    let quantity = note.announced.quantity;
-    let traded = note.traded;
-    let back = note.back;
-    let rest = note.rest();
     println!(rt;
-        "order {number}: quantity {quantity}, traded {traded}, given back {back}, rest {rest}"
+        "order {}: quantity {}, traded {}, given back {}, rest {}",
+        note.announced.number,
+        note.announced.quantity,
+        note.traded,
+        note.back,
+        note.rest()
     )
 }
 
@@ -37,8 +37,10 @@ fn show_register(rt: &HostRuntime, tally: &Tally, row: Row) -> io::Result<()> {
     let limit = row.figures.limit;
     let blocked = row.figures.blocked;
     let opening = opened.blocked;
-    let live = i64::try_from(tally.live_blocks(row.key)).unwrap_or(0);
-    let difference = blocked.saturating_sub(opening).saturating_sub(live);
+    let live = tally.live_blocks(row.key);
+    let difference = blocked
+        .saturating_sub(opening)
+        .saturating_sub_unsigned(live);
     let allowance = opened.allowance();
     println!(rt;
         "register {key}: limit {limit}, opening {opening}, live blocks {live}, blocked {blocked}, difference {difference}, allowance {allowance}"
