@@ -1,15 +1,28 @@
 //! The numbers of orders and trades, from 1 to 4,294,967,295.
 
-use crate::support::{RESERVE, buy, make, open_registers, sell, trade, withdraw};
+use crate::support::{
+    RESERVE, SECURITY, Step, admit, buy, cash, holding, make, sell, trade, withdraw,
+};
 use full::engine::Engine;
 use registers::row::BLANK;
 use registers::table::RowStore;
+
+/// The security, and cash and a holding for a buyer (701) and a seller (802), the cash of both first.
+fn beginning() -> [Step; 5] {
+    [
+        (admit(SECURITY, 1_000), Ok(1)),
+        (cash(701, 1_000), Ok(1)),
+        (cash(802, 0), Ok(2)),
+        (holding(701, SECURITY, 0), Ok(3)),
+        (holding(802, SECURITY, 100), Ok(4)),
+    ]
+}
 
 #[test]
 fn the_first_and_the_last_order_number(rt: HostRuntime) {
     let mut table = [BLANK; 4];
     let mut engine = Engine::new(RowStore::new(&mut table), RESERVE);
-    open_registers(&rt, &mut engine, 1_000, 100);
+    make(&rt, &mut engine, &beginning());
     let steps = [
         (sell(0, 802, 1, 50), Err(5)),
         (sell(9, 802, 101, 50), Err(10)),
@@ -31,7 +44,7 @@ fn the_first_and_the_last_order_number(rt: HostRuntime) {
 fn the_first_and_the_last_trade_number(rt: HostRuntime) {
     let mut table = [BLANK; 4];
     let mut engine = Engine::new(RowStore::new(&mut table), RESERVE);
-    open_registers(&rt, &mut engine, 1_000, 100);
+    make(&rt, &mut engine, &beginning());
     let steps = [
         (buy(1, 701, 10, 100), Ok(10)),
         (sell(2, 802, 10, 100), Ok(10)),
