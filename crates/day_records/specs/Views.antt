@@ -1,5 +1,5 @@
 -- What the reader answers, as the definitions speak of it.
-use Rattle.std.specs.Prelude.{◌≡◌, ℕ, ◌^◌, ◌<◌, ◌≤◌, List, length, drop, OnSome, Ok, Err, Option, Result}
+use Rattle.std.specs.Prelude.{◌≡◌, ℕ, ◌^◌, ◌<◌, ◌≤◌, ⊤, List, length, drop, OnSome, Ok, Err, Option, Result}
 use Rattle.std.specs.Iterator.{YieldsFirstBy}
 use Rattle.std.specs.Option.{option_map}
 use Rattle.day_records.specs.declared.cursor.DayFile.{DayFile}
@@ -18,7 +18,7 @@ header_as (Err f) = Err f
 -- records are read from the file itself, behind its header
 abbrev pub Opened : Result DayFile FileFault → List ℕ → Type 0
 Opened (Ok d) s = (d.records.bytes.now ≡ s) × (d.records.place ≡ 7)
-Opened (Err f) s = Unit {0}
+Opened (Err f) s = ⊤
 
 -- a record, and an answer, as an item of the file
 abbrev pub seen_as : Placed → Item

@@ -99,5 +99,5 @@ pub fn call(record: Record<'_>) -> Result<Call, LineRefusal>
         Record::Trade(body) => trade(body),
         Record::Post(_) | Record::Debit(_) => return Err(Refusal::BadValue.into()),
     };
-    Ok(call.ok_or(FileFault::CutShort)?)
+    call.ok_or(FileFault::CutShort.into())
 }
