@@ -66,6 +66,8 @@ pub fn fields_round_trip()
     ensures read { Rewritten }
 {}
 
+// one impl for each number, by hand: a macro may not write ghost members
+
 impl Field for u8 {
     const WIDTH: usize = 1;
 

@@ -27,13 +27,11 @@ fn opening_key(o: Opening) -> Result<Key, Refusal>
     if !code_ok(o.code) || !limit_ok(o.limit) || o.margin != 0 {
         return Err(Refusal::BadValue);
     }
-    if o.kind == Kind::Cash as u8 && o.security == 0 {
-        return Ok(cash_key(o.code));
+    match Kind::try_from(o.kind) {
+        Ok(Kind::Cash) if o.security == 0 => Ok(cash_key(o.code)),
+        Ok(Kind::Holding) if security_ok(o.security) => Ok(holding_key(o.code, o.security)),
+        _ => Err(Refusal::BadValue),
     }
-    if o.kind == Kind::Holding as u8 && security_ok(o.security) {
-        return Ok(holding_key(o.code, o.security));
-    }
-    Err(Refusal::BadValue)
 }
 
 fn asset_key(code: u32, security: u16) -> Key
@@ -104,7 +102,7 @@ impl<S: Store> Engine<S> {
         ensures { Done (open_of self.old.state o) self.old.state self.new.state result }
     {
         let key = opening_key(o)?;
-        if key.kind != Kind::Cash as u8 && self.securities.ratio(key.security).is_none() {
+        if !key.is(Kind::Cash) && self.securities.ratio(key.security).is_none() {
             return Err(Refusal::NotAdmitted);
         }
         if self.store.find(key).is_some() {
@@ -155,15 +153,11 @@ impl<S: Store> Engine<S> {
         let holding = held(&mut self.store, holding_key(a.account, a.security))?;
         let key = ready.order.block_key();
         let amount = ready.order.block(ready.order.rest);
-        let cover = if key.kind == Kind::Cash as u8 {
-            cash
-        } else {
-            holding
-        };
+        let cover = if key.is(Kind::Cash) { cash } else { holding };
         let blocked = block_on(cover, amount, floor(self.reserve, key))?;
         put_held(&mut self.store, cover, blocked.figures);
         self.book.add(ready.place, ready.order);
-        Ok(amount.units as i64)
+        Ok(amount.into())
     }
 
     /// Withdraws a live order, of either mode: the block of its rest is released and the order ends;
@@ -179,6 +173,6 @@ impl<S: Store> Engine<S> {
         let released = release_on(register, amount)?;
         put_held(&mut self.store, register, released.figures);
         self.book.free(found.place);
-        Ok(amount.units as i64)
+        Ok(amount.into())
     }
 }

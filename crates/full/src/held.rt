@@ -1,5 +1,7 @@
 //! An open register that a call looks at.
 
+ghost use Rattle.registers.specs.Registers.{Within};
+
 use registers::ranges::Amount;
 use registers::row::Figures;
 
@@ -17,4 +19,5 @@ pub struct Cover {
     pub limit: i64,
     pub amount: Amount,
     pub floor: u16,
+    ghost within: { Within limit },
 }

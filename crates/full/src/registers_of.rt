@@ -51,11 +51,7 @@ pub fn put_held<S: Store>(store: &mut S, held: Held, figures: Figures)
 pub(crate) fn floor(reserve: u16, key: Key) -> u16
     ensures { result ≡ floor_of reserve key }
 {
-    if key.kind == Kind::Cash as u8 {
-        reserve
-    } else {
-        0
-    }
+    if key.is(Kind::Cash) { reserve } else { 0 }
 }
 
 /// A raised figure. It is set back where the guard ends, unless `confirm` took the guard apart.
@@ -81,7 +77,7 @@ impl<'a> Raised<'a> {
         ensures old { result.old ≡ figure.old }
     {
         let old = *figure;
-        *figure = old + amount.units as i64;
+        *figure = old + i64::from(amount);
         Raised { figure, old }
     }
 
@@ -102,7 +98,6 @@ impl<'a> Raised<'a> {
 /// and the floor; the figure, which is raised first, is then set back.
 fn raise_covered(blocked: &mut i64, cover: Cover) -> Result<(), Refusal>
     requires blocked { Within blocked.old }
-    requires limit { Within cover.limit }
     ensures answer { is_ok result ≡ int_le (pos cover.floor) (cover.limit -ℤ (blocked.old +ℤ pos cover.amount.units)) }
     ensures refusal { OnErr result (result ≡ Err NotCovered) }
     ensures after { blocked.new ≡ kept (is_ok result) (blocked.old +ℤ pos cover.amount.units) blocked.old }
@@ -156,7 +151,7 @@ pub(crate) fn credited(f: InRange, amount: Amount) -> Figures
     ensures { result ≡ raised_of f.figures amount.units }
 {
     Figures {
-        limit: f.figures.limit + amount.units as i64,
+        limit: f.figures.limit + i64::from(amount),
         ..f.figures
     }
 }
@@ -167,8 +162,8 @@ pub(crate) fn paid(f: InRange, value: Amount, block: Amount) -> Figures
     ensures { result ≡ paid_of f.figures value.units block.units }
 {
     Figures {
-        limit: f.figures.limit - value.units as i64,
-        blocked: f.figures.blocked - block.units as i64,
+        limit: f.figures.limit - i64::from(value),
+        blocked: f.figures.blocked - i64::from(block),
         ..f.figures
     }
 }
@@ -179,7 +174,7 @@ fn released(f: InRange, amount: Amount) -> Figures
     ensures { result ≡ with_blocked f.figures (f.figures.blocked -ℤ pos amount.units) }
 {
     Figures {
-        blocked: f.figures.blocked - amount.units as i64,
+        blocked: f.figures.blocked - i64::from(amount),
         ..f.figures
     }
 }

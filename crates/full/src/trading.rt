@@ -73,9 +73,7 @@ pub(crate) fn settle(
     ensures answer { result ≡ settle_of r quantity.value value.units block.units }
     ensures moves { IfOk result (λ m. m ≡ moves_of r quantity.value value.units block.units) }
 {
-    let pieces = Amount {
-        units: u64::from(quantity.value),
-    };
+    let pieces = Amount::from(quantity);
     let payer = paid(r.payer.figures.checked()?, value, block);
     let payee = credited(r.payee.figures.checked()?, value);
     let taker = credited(r.taker.figures.checked()?, pieces);
@@ -122,6 +120,6 @@ impl<S: Store> Engine<S> {
         self.book.lower(pair.bought, pair.quantity);
         self.book.lower(pair.sold, pair.quantity);
         self.trade = d.number;
-        Ok(value.units as i64)
+        Ok(value.into())
     }
 }

@@ -15,7 +15,7 @@ use Rattle.orders.specs.declared.order.Mode.TheVariants.{Full, Partial}
 use Rattle.orders.specs.State.{Live, Admitted, resting, ratio_at, admitted_as, free_place, is_free}
 use Rattle.orders.specs.Terms.{between, code_ok, security_ok, number_ok, mode_of, TermsOf, terms_in, terms_of}
 use Rattle.orders.specs.Steps.{and_then, demand, or_refuse}
-use Rattle.orders.specs.Checks.{ReadyOf, announced, ready_of}
+use Rattle.orders.specs.Checks.{PlacedOf, announced, ready_of}
 use Rattle.orders.specs.declared.order.Side.{Side}
 use Rattle.orders.specs.declared.order.Side.TheVariants.{Buy, Sell}
 use Rattle.orders.specs.Blocks.{cash_key, holding_key, block_key, key_of, units_of}
@@ -47,7 +47,7 @@ ratio_noted_lem n [] k e = no_case (cc)
 ratio_noted_lem n (a ∷ ss) k e = ratio_by n a ss k (eqb a.number n) e (ratio_noted_lem n ss k)
 
 -- what a ready order is
-pub record Readied (ss : List Admitted) (os : List (Option Live)) (last : ℕ) (a : Announcement) (r : ReadyOf) : Type 0 where
+pub record Readied (ss : List Admitted) (os : List (Option Live)) (last : ℕ) (a : Announcement) (r : PlacedOf) : Type 0 where
   pub above : last < r.order.number
   pub rests : 0 < r.order.rest
   pub within : r.place < length os
@@ -84,7 +84,7 @@ terms_range a t e = terms_mode a t (mode_of a.mode) refl e
 live_of_lem : {n n' ac ac' se se' pr pr' ra ra' re re' : ℕ} {si si' : Side} {mo mo' : Mode} → n ≡ n' → si ≡ si' → mo ≡ mo' → ac ≡ ac' → se ≡ se' → pr ≡ pr' → ra ≡ ra' → re ≡ re' → ◌≡◌ {A = Live} (record { number = n; side = si; mode = mo; account = ac; security = se; price = pr; ratio = ra; rest = re }) (record { number = n'; side = si'; mode = mo'; account = ac'; security = se'; price = pr'; ratio = ra'; rest = re' })
 live_of_lem a b c d e f g h = cc
 
-module _ (ss : List Admitted) (os : List (Option Live)) (last : ℕ) (a : Announcement) (r : ReadyOf) where
+module _ (ss : List Admitted) (os : List (Option Live)) (last : ℕ) (a : Announcement) (r : PlacedOf) where
   ready_by : (t : Option TermsOf) (b : Bool) (k i : Option ℕ) → terms_of a ≡ t → ltb last a.number ≡ b → admitted_as ss a.security ≡ k → free_place os ≡ i →
       and_then (or_refuse t BadValue) (λ t. demand b OrderNumber (and_then (or_refuse k NotAdmitted) (λ k. and_then (or_refuse i OrdersFull) (λ i. Ok (record { place = i; order = announced a t k }))))) ≡ Ok r → Readied ss os last a r
   ready_by None b k i e f g h z = absurd (let y : ◌≡◌ {A = ℕ} 0 1 = cc in omega arith)
@@ -92,11 +92,11 @@ module _ (ss : List Admitted) (os : List (Option Live)) (last : ℕ) (a : Announ
   ready_by (Some t) true None i e f g h z = absurd (let y : ◌≡◌ {A = ℕ} 0 1 = cc in omega arith)
   ready_by (Some t) true (Some k) None e f g h z = absurd (let y : ◌≡◌ {A = ℕ} 0 1 = cc in omega arith)
   ready_by (Some t) true (Some k) (Some i) e f g h z =
-      let s : ◌≡◌ {A = ReadyOf} (record { place = i; order = announced a t k }) r = cc in
+      let s : ◌≡◌ {A = PlacedOf} (record { place = i; order = announced a t k }) r = cc in
       let tr = terms_range a t e in
       let fp = search_at is_free os i h in
-      let pi : i ≡ r.place = ap (λ (x : ReadyOf). x.place) s in
-      let po : announced a t k ≡ r.order = ap (λ (x : ReadyOf). x.order) s in
+      let pi : i ≡ r.place = ap (λ (x : PlacedOf). x.place) s in
+      let po : announced a t k ≡ r.order = ap (λ (x : PlacedOf). x.order) s in
       let nu : r.order.number ≡ a.number = sym (ap (λ (x : Live). x.number) po) in
       let re : r.order.rest ≡ t.quantity = sym (ap (λ (x : Live). x.rest) po) in
       record {
@@ -136,7 +136,7 @@ module _ (reserve : ℕ) (t : Tally) (s : State) (h : Promise reserve t s) (a : 
   abbrev with_note : Live → Tally
   with_note o = record { ratios = t.ratios; opened = t.opened; notes = t.notes ++ record { order = o; traded = 0; back = 0 } ∷ []; times = t.times }
 
-  announced_promise : (r : ReadyOf) (cash holding b : Held) → eqb a.mode 1 ≡ true → ready_of s.securities s.orders s.last_order a ≡ Ok r → held_at s.rows (cash_key a.account) ≡ Ok cash → held_at s.rows (holding_key a.account a.security) ≡ Ok holding →
+  announced_promise : (r : PlacedOf) (cash holding b : Held) → eqb a.mode 1 ≡ true → ready_of s.securities s.orders s.last_order a ≡ Ok r → held_at s.rows (cash_key a.account) ≡ Ok cash → held_at s.rows (holding_key a.account a.security) ≡ Ok holding →
       block_on (cover_of r.order cash holding) (units_of r.order) (floor_of s.reserve (key_of r.order)) ≡ Ok b →
       Promise reserve (entered t (Announce a)) (with_last_order (with_orders (with_rows s (put_held s.rows b)) (set s.orders r.place (Some r.order))) r.order.number)
   announced_promise r cash holding b m e ec eh eb =

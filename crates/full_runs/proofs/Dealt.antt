@@ -12,7 +12,7 @@ use Rattle.orders.specs.declared.order.Mode.TheVariants.{Full}
 use Rattle.orders.specs.declared.terms.Deal.{Deal}
 use Rattle.orders.specs.State.{Live, has_number, lowered}
 use Rattle.orders.specs.Blocks.{cash_key, holding_key, block_units}
-use Rattle.orders.specs.Checks.{FoundOf, found_of, PairOf, pair_of, is_buy, is_full}
+use Rattle.orders.specs.Checks.{PlacedOf, found_of, PairOf, pair_of, is_buy, is_full}
 use Rattle.full.specs.declared.held.Held.{Held}
 use Rattle.full.specs.declared.moves.Four.{Four}
 use Rattle.full.specs.declared.moves.Move.{Move}
@@ -86,8 +86,8 @@ module _ (reserve : ℕ) (t : Tally) (s : State) (h : Promise reserve t s) (d : 
 
   apart_numbers : d.buy ≡ d.sell → ⊥
   apart_numbers e =
-      let f : ◌≡◌ {A = FoundOf} (record { place = p.buy_place; order = p.buy }) (record { place = p.sell_place; order = p.sell }) = (let a = mp.buy_found in let b = mp.sell_found in let c = ap (found_of s.orders) e in cc) in
-      apart_sides (ap (λ (x : FoundOf). x.order) f)
+      let f : ◌≡◌ {A = PlacedOf} (record { place = p.buy_place; order = p.buy }) (record { place = p.sell_place; order = p.sell }) = (let a = mp.buy_found in let b = mp.sell_found in let c = ap (found_of s.orders) e in cc) in
+      apart_sides (ap (λ (x : PlacedOf). x.order) f)
 
   bx : Side-of t.notes s.orders d.buy p.buy_place p.buy p.quantity
   bx = side_of t.notes s.orders s.last_order h.orders d.buy p.buy_place p.buy p.quantity mp.buy_found mp.buy_rest

@@ -6,7 +6,7 @@ use Rattle.seek.proofs.Cases.{no_case}
 use Rattle.registers.specs.declared.row.Key.{Key}
 use Rattle.registers.specs.declared.row.Row.{Row}
 use Rattle.orders.specs.State.{Live, has_number, place_of_order}
-use Rattle.orders.specs.Checks.{FoundOf, found_in, found_from, found_of}
+use Rattle.orders.specs.Checks.{PlacedOf, found_in, found_from, found_of}
 use Rattle.full.specs.declared.held.Held.{Held}
 use Rattle.full.specs.Blocks.{held_at}
 use Rattle.full.proofs.Places.{held_stands}
@@ -29,20 +29,20 @@ open_at rows k h e =
     record { row = s.row; at = s.at; key = same_key_lem s.row.key k s.bears; figures = s.figures }
 
 -- a found order: its place holds it, and it bears the number
-pub record Place (os : List (Option Live)) (n : ℕ) (f : FoundOf) : Type 0 where
+pub record Place (os : List (Option Live)) (n : ℕ) (f : PlacedOf) : Type 0 where
   pub within : f.place < length os
   pub holds : get_or os f.place None ≡ Some f.order
   pub bears : has_number n (Some f.order) ≡ true
   pub slot : slot_for n os ≡ Some f.order
 
-module _ (os : List (Option Live)) (n : ℕ) (f : FoundOf) where
+module _ (os : List (Option Live)) (n : ℕ) (f : PlacedOf) where
   place_in : (i : ℕ) (x : Option Live) → place_of_order n os ≡ Some i → get_or os i None ≡ x → found_in i x ≡ Ok f → Place os n f
   place_in i None p e g = no_case (cc)
   place_in i (Some o) p e g =
-      let s : ◌≡◌ {A = FoundOf} (record { place = i; order = o }) f = cc in
+      let s : ◌≡◌ {A = PlacedOf} (record { place = i; order = o }) f = cc in
       let a = search_at (has_number n) os i p in
-      let pi : i ≡ f.place = ap (λ (x : FoundOf). x.place) s in
-      let po : o ≡ f.order = ap (λ (x : FoundOf). x.order) s in
+      let pi : i ≡ f.place = ap (λ (x : PlacedOf). x.place) s in
+      let po : o ≡ f.order = ap (λ (x : PlacedOf). x.order) s in
       let h : get_or os f.place None ≡ Some f.order = ap (λ (j : ℕ). get_or os j None) (sym pi) ∙ e ∙ ap Some po in
       let b : has_number n (Some f.order) ≡ true = ap (has_number n) (sym (e ∙ ap Some po)) ∙ a.1 in
       record { within = omega (arith, a.0); holds = h; bears = b; slot = slot_at n os i p ∙ e ∙ ap Some po }

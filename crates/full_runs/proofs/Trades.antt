@@ -19,7 +19,7 @@ use Rattle.orders.specs.Steps.{and_then, demand, or_refuse}
 use Rattle.full.specs.declared.held.Held.{Held}
 use Rattle.orders.specs.State.{Live, lowered, resting}
 use Rattle.orders.specs.Blocks.{cash_key, holding_key, block_key, block_units, units_of}
-use Rattle.orders.specs.Checks.{FoundOf, found_of, PairOf, matched_of, pair_of, is_buy, is_full, same_mode}
+use Rattle.orders.specs.Checks.{PlacedOf, found_of, PairOf, matched_of, pair_of, is_buy, is_full, same_mode}
 use Rattle.full_runs.specs.Keyed.{at, put}
 use Rattle.full_runs.specs.Tally.{Note, number, rest_of, standing, with_traded, register_of, time_of, owed, times_on}
 use Rattle.full_runs.specs.Law.{Whole, lives, slack_of}
@@ -115,7 +115,7 @@ not_true true e = no_case (cc)
 not_true false e = refl
 
 module _ (os : List (Option Live)) (last : ℕ) (d : Deal) (p : PairOf) where
-  matched_pair : (b : BargainOf) (x y : FoundOf) → b.quantity ≡ d.quantity → found_of os d.buy ≡ Ok x → found_of os d.sell ≡ Ok y → matched_of (record { buy_place = x.place; sell_place = y.place; buy = x.order; sell = y.order; quantity = b.quantity; price = b.price }) ≡ Ok p → Matched os last d p
+  matched_pair : (b : BargainOf) (x y : PlacedOf) → b.quantity ≡ d.quantity → found_of os d.buy ≡ Ok x → found_of os d.sell ≡ Ok y → matched_of (record { buy_place = x.place; sell_place = y.place; buy = x.order; sell = y.order; quantity = b.quantity; price = b.price }) ≡ Ok p → Matched os last d p
   unfolding matched_of
   matched_pair b x y bq fx fy e =
       let sides = passed (is_buy x.order.side && not (is_buy y.order.side)) _ _ p e in
@@ -142,7 +142,7 @@ module _ (os : List (Option Live)) (last : ℕ) (d : Deal) (p : PairOf) where
         quantity = bq;
       })
 
-  pair_by : (bo : Option BargainOf) (lt : Bool) (fx fy : Result FoundOf Refusal) → bargain_of d ≡ bo → found_of os d.buy ≡ fx → found_of os d.sell ≡ fy →
+  pair_by : (bo : Option BargainOf) (lt : Bool) (fx fy : Result PlacedOf Refusal) → bargain_of d ≡ bo → found_of os d.buy ≡ fx → found_of os d.sell ≡ fy →
       and_then (or_refuse bo BadValue) (λ b. demand lt TradeNumber (and_then fx (λ x. and_then fy (λ y. matched_of (record { buy_place = x.place; sell_place = y.place; buy = x.order; sell = y.order; quantity = b.quantity; price = b.price }))))) ≡ Ok p → Matched os last d p
   pair_by None lt fx fy e f g z = no_case (cc)
   pair_by (Some b) false fx fy e f g z = no_case (cc)

@@ -12,7 +12,7 @@ use Rattle.orders.specs.declared.order.Mode.{Mode}
 use Rattle.orders.specs.declared.order.Mode.TheVariants.{Full, Partial}
 use Rattle.orders.specs.State.{Live, has_number}
 use Rattle.orders.specs.Blocks.{block_units, key_of, units_of}
-use Rattle.orders.specs.Checks.{FoundOf, found_of}
+use Rattle.orders.specs.Checks.{PlacedOf, found_of}
 use Rattle.full.specs.declared.held.Held.{Held}
 use Rattle.full.specs.Plans.{State, with_rows, with_orders}
 use Rattle.full.specs.Blocks.{held_at, release_on, put_held, with_blocked}
@@ -56,7 +56,7 @@ none_rests : (x : Note) → Whole x → rest_of (with_back x) ≡ 0
 none_rests x w = omega arith
 
 module _ (reserve : ℕ) (t : Tally) (s : State) (h : Promise reserve t s) (n : ℕ) where
-  withdrawn : (f : FoundOf) (r c : Held) → found_of s.orders n ≡ Ok f → held_at s.rows (key_of f.order) ≡ Ok r → release_on r (units_of f.order) ≡ Ok c → Promise reserve (entered t (Withdraw n)) (with_orders (with_rows s (put_held s.rows c)) (set s.orders f.place None))
+  withdrawn : (f : PlacedOf) (r c : Held) → found_of s.orders n ≡ Ok f → held_at s.rows (key_of f.order) ≡ Ok r → release_on r (units_of f.order) ≡ Ok c → Promise reserve (entered t (Withdraw n)) (with_orders (with_rows s (put_held s.rows c)) (set s.orders f.place None))
   withdrawn f r c ef er ec =
       let pl = found_place s.orders n f ef in
       let nd = noted_order t.notes n f.order s.orders s.last_order h.orders pl.slot in

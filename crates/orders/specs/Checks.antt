@@ -12,8 +12,8 @@ use Rattle.orders.specs.State.{Live, Admitted, admitted_as, place_of_order, free
 use Rattle.orders.specs.Terms.{TermsOf, terms_of, bargain_of}
 use Rattle.orders.specs.Steps.{and_then, demand, or_refuse}
 
--- an order that is ready to be announced: the place that it takes, and the order
-pub record ReadyOf : Type 0 where
+-- an order and its place: the one that it has, or the one that it takes when it is announced
+pub record PlacedOf : Type 0 where
   pub place : ℕ
   pub order : Live
 
@@ -21,7 +21,7 @@ abbrev pub announced : Announcement → TermsOf → ℕ → Live
 announced a t k = record { number = a.number; side = a.side; mode = t.mode; account = a.account; security = a.security; price = t.price; ratio = k; rest = t.quantity }
 
 -- the checks of an announcement up to the registers, for both modes: 5, 8, 7, 9
-unfoldable pub ready_of : List Admitted → List (Option Live) → ℕ → Announcement → Result ReadyOf Refusal
+unfoldable pub ready_of : List Admitted → List (Option Live) → ℕ → Announcement → Result PlacedOf Refusal
 ready_of ss os last a =
     and_then (or_refuse (terms_of a) BadValue) (λ t.
     demand (nat_lt last a.number) OrderNumber
@@ -30,19 +30,15 @@ ready_of ss os last a =
     Ok (record { place = i; order = announced a t k })))))
 
 -- a live order and its place
-pub record FoundOf : Type 0 where
-  pub place : ℕ
-  pub order : Live
-
-abbrev pub found_in : ℕ → Option Live → Result FoundOf Refusal
+abbrev pub found_in : ℕ → Option Live → Result PlacedOf Refusal
 found_in i None = Err NoOrder
 found_in i (Some o) = Ok (record { place = i; order = o })
 
-abbrev pub found_from : List (Option Live) → Option ℕ → Result FoundOf Refusal
+abbrev pub found_from : List (Option Live) → Option ℕ → Result PlacedOf Refusal
 found_from os None = Err NoOrder
 found_from os (Some i) = found_in i (slice_index_or os i None)
 
-unfoldable pub found_of : List (Option Live) → ℕ → Result FoundOf Refusal
+unfoldable pub found_of : List (Option Live) → ℕ → Result PlacedOf Refusal
 found_of os n = found_from os (place_of_order n os)
 
 abbrev pub is_buy : Side → Bool

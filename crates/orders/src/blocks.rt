@@ -60,9 +60,7 @@ impl Order {
     {
         match (self.mode, self.side) {
             (Mode::Full, Side::Buy) => money(quantity, self.price),
-            (Mode::Full, Side::Sell) => Amount {
-                units: u64::from(quantity.value),
-            },
+            (Mode::Full, Side::Sell) => Amount::from(quantity),
             (Mode::Partial, _) => risk(quantity, self.price, self.ratio),
         }
     }

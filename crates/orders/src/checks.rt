@@ -4,9 +4,9 @@ ghost use Rattle.std.specs.Prelude.{◌≡◌, IfOk, ◌≢◌};
 ghost use Rattle.orders.specs.State.{slots_of, list_of};
 ghost use Rattle.orders.specs.Steps.{ok_as};
 ghost use Rattle.orders.specs.Checks.{ready_of, found_of, matched_of, pair_of};
-ghost use Rattle.orders.specs.Views.{ready_as, found_as, pair_as};
+ghost use Rattle.orders.specs.Views.{placed_as, pair_as};
 
-use crate::found::{Found, Pair, Ready};
+use crate::found::{Pair, Placed};
 use crate::order::{Book, Order, Side};
 use crate::refusal::Refusal;
 use crate::security::Securities;
@@ -16,8 +16,8 @@ use crate::terms::{Announcement, Bargain, Deal, Terms};
 /// ranges (5), a number not above the last (8), a security that is not admitted (7) and a full
 /// book (9).
 #[tactic(auto, unfolding(crate::specs::Checks::ready_of))]
-pub fn ready(securities: &Securities, book: &Book, a: Announcement) -> Result<Ready, Refusal>
-    ensures { ok_as ready_as result ≡ ready_of (list_of securities.now) (slots_of book.now) book.now.last a }
+pub fn ready(securities: &Securities, book: &Book, a: Announcement) -> Result<Placed, Refusal>
+    ensures { ok_as placed_as result ≡ ready_of (list_of securities.now) (slots_of book.now) book.now.last a }
 {
     let terms = Terms::try_from(a)?;
     if a.number <= book.last {
@@ -35,18 +35,18 @@ pub fn ready(securities: &Securities, book: &Book, a: Announcement) -> Result<Re
         ratio,
         rest: terms.quantity,
     };
-    Ok(Ready { place, order })
+    Ok(Placed { place, order })
 }
 
 impl Book {
     /// The live order of a number and its place. Refuses (11) where there is none.
     #[tactic(auto, unfolding(crate::specs::Checks::found_of))]
-    pub fn found(&self, number: u32) -> Result<Found, Refusal>
-        ensures { ok_as found_as result ≡ found_of (slots_of self.now) number }
+    pub fn found(&self, number: u32) -> Result<Placed, Refusal>
+        ensures { ok_as placed_as result ≡ found_of (slots_of self.now) number }
     {
         let place = self.place_of(number).ok_or(Refusal::NoOrder)?;
         let order = self.orders[place].ok_or(Refusal::NoOrder)?;
-        Ok(Found { place, order })
+        Ok(Placed { place, order })
     }
 }
 

@@ -3,16 +3,9 @@
 use crate::order::Order;
 use registers::ranges::{Price, Quantity};
 
-/// An order that is ready to be announced, and the place that it takes.
+/// An order and its place in the book: the one that it has, or the one that it takes when it is announced.
 #[derive(Clone, Copy, PartialEq, Eq, Debug)]
-pub struct Ready {
-    pub place: usize,
-    pub order: Order,
-}
-
-/// A live order, and its place.
-#[derive(Clone, Copy, PartialEq, Eq, Debug)]
-pub struct Found {
+pub struct Placed {
     pub place: usize,
     pub order: Order,
 }

@@ -13,8 +13,10 @@ pub enum Side {
 /// participant's limit.
 #[derive(Clone, Copy, PartialEq, Eq, Debug)]
 pub enum Mode {
-    Full,
-    Partial,
+    /// 1: full collateral.
+    Full = 1,
+    /// 2: partial collateral.
+    Partial = 2,
 }
 
 /// A live order. The ratio is that of its security when it was announced.

@@ -24,34 +24,40 @@ pub fn risk(quantity: Quantity, price: Price, ratio: Ratio) -> Amount
     Amount { units }
 }
 
-fn product(quantity: Quantity, price: Price) -> u64
-    ensures value { result ≡ quantity.value * price.value }
-    ensures bound { result ≤ 100000000000000 }
-{
-    u64::from(quantity.value) * u64::from(price.value)
+/// A quantity times a price, not rounded yet.
+#[derive(Clone, Copy)]
+struct Unrounded {
+    value: u64,
+    ghost most: { value ≤ 100000000000000 },
 }
 
-// apart from `millionths`: by quotient and remainder, where that takes one sum; one function for both is no plainer
+fn product(quantity: Quantity, price: Price) -> Unrounded
+    ensures { result.value ≡ quantity.value * price.value }
+{
+    let value = u64::from(quantity.value) * u64::from(price.value);
+    Unrounded { value }
+}
+
+// apart from `millionths`: by quotient and remainder, where that takes one sum, so that the one definition of
+// rounding is proved of two ways of working
 #[tactic(auto, unfolding(crate::specs::Amounts::rounded))]
-fn hundredths(product: u64) -> u64
-    requires { product ≤ 100000000000000 }
-    ensures value { result ≡ rounded 100 product }
+fn hundredths(product: Unrounded) -> u64
+    ensures value { result ≡ rounded 100 product.value }
     ensures bound { result ≤ 1000000000000 }
 {
-    let whole = product / 100;
-    if product % 100 >= 50 {
+    let whole = product.value / 100;
+    if product.value % 100 >= 50 {
         whole + 1
     } else {
         whole
     }
 }
 
-fn millionths(product: u64, ratio: Ratio) -> u64
-    requires { product ≤ 100000000000000 }
-    ensures value { result ≡ rounded 1000000 (product * ratio.value) }
+fn millionths(product: Unrounded, ratio: Ratio) -> u64
+    ensures value { result ≡ rounded 1000000 (product.value * ratio.value) }
     ensures bound { result ≤ 1000000000000 }
 {
-    (product * u64::from(ratio.value) + 500_000) / 1_000_000
+    (product.value * u64::from(ratio.value) + 500_000) / 1_000_000
 }
 
 /// Over every divisor: two parts round to within one of what their sum rounds to, a greater number

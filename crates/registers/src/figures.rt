@@ -1,13 +1,14 @@
 //! Tests on rows, and the numbers of faults.
 
-ghost use Rattle.std.specs.Prelude.{◌≡◌, true, if◌then◌else◌, Ok, Err};
+ghost use Rattle.std.specs.Prelude.{◌≡◌, true, if◌then◌else◌, Ok, Err, ◌==◌};
+ghost use Rattle.std.specs.Option.{ok_or};
 ghost use Rattle.std.specs.Result.{result_map_both};
 ghost use Rattle.registers.specs.declared.fault.StoreFault.TheVariants.{OutOfRange};
-ghost use Rattle.registers.specs.Registers.{bounded, in_range, same_key, fault_number, Bounded, Within};
+ghost use Rattle.registers.specs.Registers.{bounded, in_range, same_key, fault_number, kind_number, kind_of, Bounded, Within};
 
 use crate::fault::StoreFault;
 use crate::in_range::InRange;
-use crate::row::{Figures, Key, Row};
+use crate::row::{Figures, Key, Kind, Row};
 use seek::Keyed;
 
 /// The greatest value of a figure, and with a minus the least.
@@ -52,6 +53,31 @@ impl StoreFault {
         ensures { result ≡ fault_number self }
     {
         self as u8
+    }
+}
+
+impl Key {
+    /// Whether the key is one of a kind of registers.
+    pub fn is(self, kind: Kind) -> bool
+        ensures { result ≡ (self.kind == kind_number kind) }
+    {
+        self.kind == kind as u8
+    }
+}
+
+/// The kind that a number stands for. Refuses a number that is none's, and gives it back.
+impl TryFrom<u8> for Kind {
+    type Error = u8;
+
+    ghost try_from_gives = { λ number r. r ≡ ok_or (kind_of number) number };
+
+    fn try_from(number: u8) -> Result<Kind, u8> {
+        match number {
+            1 => Ok(Kind::Cash),
+            2 => Ok(Kind::Holding),
+            3 => Ok(Kind::Participant),
+            _ => Err(number),
+        }
     }
 }
 

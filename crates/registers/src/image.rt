@@ -39,11 +39,11 @@ fn count_of(bytes: &[u8]) -> usize
     ensures { result ≡ count_of bytes.now }
 {
     let room = room_of(bytes);
-    match read::<u16>(bytes, 5) {
-        Some(count) => usize::from(count).min(room),
-        None => 0,
-    }
+    read::<u16>(bytes, 5).map_or(0, |count| usize::from(count).min(room))
 }
+
+// that so many bytes lie behind a place is said at each function on a row: a place alone has no such fact, and a
+// row is defined by its offsets in the whole image
 
 #[tactic(auto, unfolding(crate::specs::Images::key_at))]
 fn key_at(bytes: &[u8], at: usize) -> Option<Key>
@@ -154,6 +154,8 @@ pub fn format(bytes: &mut [u8]) -> Result<(), TooShort>
     Ok(())
 }
 
+// `put_in` and `add_in` stand apart from the store: a method that writes and lends the bytes to be read forgets
+// what it knows of them
 fn put_in(bytes: &mut [u8], place: usize, figures: Figures) -> Result<(), StoreFault>
     ensures answer { result ≡ put_answer (image_rows bytes.old) place }
     ensures after { image_rows bytes.new ≡ put_row (image_rows bytes.old) place figures }

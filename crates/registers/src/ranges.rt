@@ -1,6 +1,6 @@
 //! Numbers that lie in their ranges by type.
 
-ghost use Rattle.std.specs.Prelude.{◌≡◌, ◌≤◌};
+ghost use Rattle.std.specs.Prelude.{◌≡◌, ◌≤◌, pos};
 ghost use Rattle.std.specs.Option.{option_map};
 ghost use Rattle.registers.specs.Amounts.{ranged};
 
@@ -38,5 +38,25 @@ impl<const MOST: u32> Ranged<MOST> {
             return None;
         }
         Some(Ranged { value })
+    }
+}
+
+/// As many pieces as a quantity counts.
+impl From<Quantity> for Amount {
+    ghost from_gives = { λ quantity r. r.units ≡ quantity.value };
+
+    fn from(quantity: Quantity) -> Amount {
+        Amount {
+            units: u64::from(quantity.value),
+        }
+    }
+}
+
+/// The units of an amount, as figures count them.
+impl From<Amount> for i64 {
+    ghost from_gives = { λ amount r. r ≡ pos amount.units };
+
+    fn from(amount: Amount) -> i64 {
+        amount.units as i64
     }
 }

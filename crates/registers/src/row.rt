@@ -14,7 +14,7 @@ pub enum Kind {
 /// A register's key as stored numbers. The kind is the number of a `Kind`, or any other that the bytes
 /// of an image spell; the code names the account or the participant, and the security is 0 for cash and
 /// for a participant's limit.
-#[derive(Clone, Copy, PartialEq, Eq, Debug)]
+#[derive(Clone, Copy, PartialEq, Eq, PartialOrd, Ord, Debug)]
 pub struct Key {
     pub kind: u8,
     pub code: u32,

@@ -2,16 +2,15 @@ use Rattle.std.proofs.Common.{◌≡◌, ℕ, ◌*◌, ◌≤◌, ap, mul-le-mul
 use Rattle.registers.specs.Amounts.{rounded}
 use Rattle.registers.proofs.amounts.millionths.Goals as goal
 
-module _ (c : goal.After-from) where
-  same : c.args.product * c.from.result ≡ c.args.product * c.args.ratio.value
-  same = ap (λ (k : ℕ). c.args.product * k) c.from.ensures
-
-  most : c.args.product * c.args.ratio.value ≤ 100000000000000 * 10000
-  most = mul-le-mul c.requires c.args.ratio.most
-
 pub overflow_add-result : goal.overflow_add-result
-overflow_add-result c = omega (arith, same c, most c)
+overflow_add-result c =
+    let same : c.args.product.value * c.from.result ≡ c.args.product.value * c.args.ratio.value = ap (λ (k : ℕ). c.args.product.value * k) c.from.ensures in
+    let most : c.args.product.value * c.args.ratio.value ≤ 100000000000000 * 10000 = mul-le-mul c.args.product.most c.args.ratio.most in
+    omega arith
 
 pub returns : goal.returns
 unfolding rounded
-returns c = record { value = omega (arith, same c); bound = omega (arith, same c, most c) }
+returns c =
+    let same : c.args.product.value * c.from.result ≡ c.args.product.value * c.args.ratio.value = ap (λ (k : ℕ). c.args.product.value * k) c.from.ensures in
+    let most : c.args.product.value * c.args.ratio.value ≤ 100000000000000 * 10000 = mul-le-mul c.args.product.most c.args.ratio.most in
+    record { value = omega arith; bound = omega arith }
