@@ -7,6 +7,7 @@ use std::marker::Model;
 
 /// The engine of Level One over a store. Its parts are public for the level above; who embeds it
 /// uses the calls.
+#[derive(Drop)]
 pub struct Engine<S: Store> {
     pub store: S,
     pub reserve: u16,
