@@ -49,12 +49,11 @@ pub fn run<S: Store>(
     ensures kept { S.Store.rows store ≡ [] → Law reserve (tallied empty (take (length outcomes.old) calls.now) outcomes.new) result.state }
 {
     let mut engine = Engine::new(store, reserve);
-    let count = calls.len().min(outcomes.len());
-    // by index, tried with `iter_mut().zip(calls)`: of a slice that `iter_mut` lent, a proof knows no element
-    // afterwards
-    for i in 0..count {
-        let outcome = carry_out(&mut engine, calls[i]);
-        outcomes[i] = outcome;
+    for (i, outcome) in outcomes.iter_mut().enumerate() {
+        let Some(call) = calls.get(i) else {
+            break;
+        };
+        *outcome = carry_out(&mut engine, *call);
     }
     engine
 }
