@@ -22,9 +22,8 @@ pub fn run_day<S: Store>(store: S, file: &[u8]) -> Engine<S>
     ensures law { S.Store.rows store ≡ [] → (n : ℕ) → Law (reserve_of file.now) (tallied empty (take n (calls_of file.now)) (outcomes_of (begin_of (S.Store.rows store) (S.Store.capacity store) file.now) (calls_of file.now))) (state_after (begin_of (S.Store.rows store) (S.Store.capacity store) file.now) (take n (calls_of file.now))) }
     ensures kept { S.Store.rows store ≡ [] → Law (reserve_of file.now) (tallied empty (calls_of file.now) (outcomes_of (begin_of (S.Store.rows store) (S.Store.capacity store) file.now) (calls_of file.now))) result.state }
 {
-    let day = match open(file) {
-        Ok(day) => day,
-        Err(_) => return Engine::new(store, 0),
+    let Ok(day) = open(file) else {
+        return Engine::new(store, 0);
     };
     let mut engine = Engine::new(store, day.reserve);
     for told in day.records {

@@ -20,6 +20,7 @@ pub enum Stage {
 
 /// A day on its way: the engine, the records that are still to be read, how many were read without
 /// fault, and what is told next. Once the registers are told, records and count mean nothing.
+#[derive(Drop)]
 pub struct Day<'a, S: Store> {
     pub engine: Engine<S>,
     pub records: Reader<'a>,
@@ -40,12 +41,5 @@ impl<S: Store> Day<'_, S> {
             stage: _,
         } = self;
         engine.into_store()
-    }
-}
-
-/// A day over a store that may be let go may be let go itself.
-impl<S: Store + Drop> Drop for Day<'_, S> {
-    fn drop(self) {
-        let _store = self.into_store();
     }
 }
