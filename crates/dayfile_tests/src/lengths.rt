@@ -18,6 +18,7 @@ fn expected(length: usize) -> &'static str {
 
 #[test]
 fn a_day_cut_at_every_byte(rt: HostRuntime) -> Result<(), Fail> {
+    // the lengths themselves are gone through
     for length in 0..37 {
         check_listing(&rt, rt.alloc(), &DAY[0..length], expected(length))?;
     }

@@ -14,6 +14,7 @@ use std::test::Fail;
 /// Every byte as the letter of a record that has no fields: nine are cut short, all others unknown.
 #[test]
 fn every_byte_as_a_letter(rt: HostRuntime) -> Result<(), Fail> {
+    // the letters themselves are gone through
     for letter in 0..=255 {
         let file = [b'L', b'R', b'D', 0, 1, 0, 0, letter];
         let expected = match letter {
@@ -63,6 +64,8 @@ fn records_of_a_day(rt: HostRuntime) -> Result<(), Fail> {
         }),
     ];
     assert_eq!(rt; items.as_slice(), expected.as_slice());
+    assert_eq!(rt; Record::Open(&DAY[8..31]).length(), 23);
+    assert_eq!(rt; Record::Withdraw(&DAY[32..36]).kind().letter(), 'W');
     Ok(())
 }
 
@@ -75,8 +78,11 @@ fn fault_of_the_header(rt: HostRuntime) -> Result<(), Fail> {
         place: 0,
     })];
     assert_eq!(rt; items.as_slice(), expected.as_slice());
+    assert_eq!(rt; FileFault::BadHeader.number(), 33);
     Ok(())
 }
+
+// numbers and letters, which the rules give: tests hold to them
 
 /// The number and the layer of a refusal, or `None` where there is a call.
 fn refused(answer: Result<Call, LineRefusal>) -> Option<(u8, char)> {

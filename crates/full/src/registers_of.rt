@@ -16,6 +16,9 @@ use registers::ranges::Amount;
 use registers::row::{Figures, Key, Kind};
 use registers::store::Store;
 
+// that rows and room stay is said at each function over a store, here and in the other files: it is of the store
+// before and after, and no fact of one value says it
+
 /// The open register of a key. Refuses (6) where none is open; the store is as it stood.
 #[tactic(auto, unfolding(crate::specs::Blocks::held_at))]
 pub fn held<S: Store>(store: &mut S, key: Key) -> Result<Held, Refusal>
@@ -69,6 +72,7 @@ impl Drop for Raised<'_> {
     }
 }
 
+// the guard borrows one figure, and that it is in range is about that figure alone: no type of its own says more
 impl<'a> Raised<'a> {
     fn new(figure: &'a mut i64, amount: Amount) -> Raised<'a>
         requires { Within figure.old }
@@ -110,6 +114,9 @@ fn raise_covered(blocked: &mut i64, cover: Cover) -> Result<(), Refusal>
     guard.confirm();
     Ok(())
 }
+
+// `placed`, here and twice below, is what callers need of the answer: the register that was read and the one that
+// ends are two values, which no type joins
 
 /// Blocks an amount on a register: its figures with the blocked figure raised. Refuses (25) figures
 /// out of range, and (10) where the limit does not cover the raised figure and the floor.

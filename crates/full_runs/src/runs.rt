@@ -37,6 +37,7 @@ pub fn carry_out<S: Store>(engine: &mut Engine<S>, call: Call) -> Result<i64, Re
 /// Every call is answered or refused, and moves the state, as its plan says. If the store was empty, the
 /// law holds after each call, also where some are refused: between the state and a tally that was fed
 /// the calls and their outcomes alone.
+// the places of outcomes are lent: there is no heap
 pub fn run<S: Store>(
     store: S,
     reserve: u16,

@@ -27,7 +27,6 @@ fn check_purchased(rt: &impl Abort, reserve: u16, limit: u64, expected: Result<i
         (buy(1, 701, 2, 50), expected),
     ];
     make(rt, &mut engine, &steps);
-    let _store = engine.into_store();
 }
 
 #[test]

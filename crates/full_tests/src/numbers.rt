@@ -37,7 +37,6 @@ fn the_first_and_the_last_order_number(rt: HostRuntime) {
         (withdraw(4_294_967_295), Ok(2)),
     ];
     make(&rt, &mut engine, &steps);
-    let _store = engine.into_store();
 }
 
 #[test]
@@ -58,5 +57,4 @@ fn the_first_and_the_last_trade_number(rt: HostRuntime) {
         (trade(0, 1, 100), Err(5)),
     ];
     make(&rt, &mut engine, &steps);
-    let _store = engine.into_store();
 }

@@ -3,7 +3,7 @@
 use full::engine::Engine;
 use full_runs::call::Call;
 use full_runs::runs::carry_out;
-use orders::order::Side;
+use orders::order::{Mode, Side};
 use orders::terms::{Announcement, Deal, Opening};
 use registers::row::{Figures, Kind};
 use registers::store::Store;
@@ -65,7 +65,7 @@ pub(crate) fn order(
 ) -> Announcement {
     Announcement {
         side,
-        mode: 1,
+        mode: Mode::Full as u8,
         number,
         account,
         security: SECURITY,

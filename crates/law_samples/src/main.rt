@@ -48,7 +48,7 @@ fn show_register(rt: &HostRuntime, tally: &Tally, row: Row) -> io::Result<()> {
 }
 
 fn show_run<S: Store + Drop>(rt: &HostRuntime, store: S, calls: &[Call]) -> io::Result<()> {
-    let mut outcomes = [Ok(0); 16];
+    let mut outcomes = vec![in rt.alloc(); Ok(0); calls.len()]?;
     let mut store = run(store, 200, calls, &mut outcomes).into_store();
     let mut tally = Tally::new(rt.alloc());
     show_outcomes(rt, calls, &outcomes, &mut tally)?;

@@ -26,10 +26,10 @@ pub struct Opened {
     pub times: u32,
 }
 
-/// The opened registers, in the order of their calls, and the announced orders by their numbers.
+/// The opened registers by their keys, and the announced orders by their numbers.
 #[derive(Drop)]
 pub struct Tally {
-    pub opened: Vec<Opened>,
+    pub opened: BTreeMap<Key, Opened>,
     pub notes: BTreeMap<u32, Note>,
 }
 
@@ -68,17 +68,18 @@ impl Tally {
     /// The tally of no calls.
     pub(crate) fn new(alloc: Global) -> Tally {
         Tally {
-            opened: Vec::new(alloc),
+            opened: BTreeMap::new(alloc),
             notes: BTreeMap::new(alloc),
         }
     }
 
     fn note_opening(&mut self, key: Key) -> Result<(), AllocError> {
-        self.opened.push(Opened {
+        let opened = Opened {
             key,
             blocked: 0,
             times: 0,
-        })?;
+        };
+        self.opened.insert(key, opened)?;
         Ok(())
     }
 
@@ -93,10 +94,8 @@ impl Tally {
     }
 
     fn note_time(&mut self, key: Key) {
-        for opened in &mut self.opened {
-            if opened.key == key {
-                opened.times = opened.times.saturating_add(1);
-            }
+        if let Some(opened) = self.opened.get_mut(&key) {
+            opened.times = opened.times.saturating_add(1);
         }
     }
 
@@ -118,6 +117,7 @@ impl Tally {
 
     /// Notes an accepted call.
     pub(crate) fn enter(&mut self, call: Call) -> Result<(), AllocError> {
+        // a match: calls are values, and each kind is noted otherwise
         match call {
             Call::Open(opening) => self.note_opening(Key {
                 kind: opening.kind,
@@ -148,14 +148,14 @@ impl Tally {
 
     /// The register of a key as it was opened.
     pub(crate) fn opened_as(&self, key: Key) -> Option<Opened> {
-        self.opened.iter().copied().find(|opened| opened.key == key)
+        self.opened.get(&key).copied()
     }
 }
 
 impl Opened {
     /// By how many kopecks the blocked figure may be off: none for securities.
     pub(crate) fn allowance(self) -> u32 {
-        if self.key.kind == Kind::Cash as u8 {
+        if self.key.is(Kind::Cash) {
             self.times
         } else {
             0

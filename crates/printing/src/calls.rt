@@ -2,10 +2,10 @@
 
 ghost use Rattle.std.specs.Prelude.{◌≡◌};
 ghost use Rattle.full_runs.specs.declared.call.Call.TheVariants.{Open, Announce, Trade};
-ghost use Rattle.printing.specs.Calls.{kind_number};
+ghost use Rattle.registers.specs.Registers.{kind_number};
 
 use full_runs::call::Call;
-use orders::order::Side;
+use orders::order::{Mode, Side};
 use orders::terms::{Announcement, Deal, Opening};
 use registers::row::Kind;
 
@@ -31,7 +31,7 @@ pub fn announce(side: Side, number: u32, account: u32, quantity: u32, price: u32
 {
     Call::Announce(Announcement {
         side,
-        mode: 1,
+        mode: Mode::Full as u8,
         number,
         account,
         security: SECURITY,

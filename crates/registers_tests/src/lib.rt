@@ -19,6 +19,7 @@ mod tests {
         third: 0,
     };
 
+    // kinds are numbers here: an image may spell any
     fn key(kind: u8, code: u32, security: u16) -> Key {
         Key {
             kind,
@@ -34,7 +35,7 @@ mod tests {
         }
     }
 
-    /// A store's answer, with a fault as its refusal number.
+    /// A store's answer, with a fault as its refusal number: the rules give numbers, and tests hold to them.
     fn numbered(answer: Result<(), StoreFault>) -> Result<(), u8> {
         answer.map_err(|fault| fault.number())
     }
@@ -228,6 +229,7 @@ mod tests {
         let heap = rt.alloc();
         let mut table = vec![in heap; row(0, 0, 0, ZERO); 4096]?;
         let mut store = RowStore::new(&mut table);
+        // the codes themselves are gone through
         for code in 0..4096 {
             assert_eq!(rt; store.add(row(1, code, 0, ZERO)), Ok(()));
         }

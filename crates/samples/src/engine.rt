@@ -88,16 +88,10 @@ fn go_on<S: Store>(rt: &HostRuntime, engine: &mut Engine<S>) -> io::Result<()> {
     deal(rt, engine, &withdrawals)
 }
 
-fn show_day<S: Store>(rt: &HostRuntime, engine: &mut Engine<S>) -> io::Result<()> {
-    begin(rt, engine)?;
-    go_on(rt, engine)
-}
-
 fn show_over<S: Store + Drop>(rt: &HostRuntime, store: S) -> io::Result<()> {
     let mut engine = Engine::new(store, 200);
-    let result = show_day(rt, &mut engine);
-    let _store = engine.into_store();
-    result
+    begin(rt, &mut engine)?;
+    go_on(rt, &mut engine)
 }
 
 /// Runs the level's dealings over a row store and over an image store, with a reserve of 200.
