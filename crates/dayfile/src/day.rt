@@ -25,6 +25,8 @@ pub struct Day<'a, S: Store> {
     pub engine: Engine<S>,
     pub records: Reader<'a>,
     pub count: usize,
+    // beside records and count, and not around them: two stages read on, and a case that held both would be taken
+    // apart and made again at each line
     pub stage: Stage,
     ghost counted: { count ≤ records.place },
 }
