@@ -66,7 +66,7 @@ pub fn fields_round_trip()
     ensures read { Rewritten }
 {}
 
-// one impl for each number, by hand: a macro may not write ghost members
+// one impl for each number, by hand: the gate refuses an impl that a macro of the repository wrote
 
 impl Field for u8 {
     const WIDTH: usize = 1;

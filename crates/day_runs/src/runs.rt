@@ -28,6 +28,7 @@ pub fn run_day<S: Store>(store: S, file: &[u8]) -> Engine<S>
     let mut engine = Engine::new(store, day.reserve);
     for told in day.records {
         if let Ok(read) = told {
+            // a refusal leaves the engine as it stood, and the day goes on
             let _ = carry_out(&mut engine, read.record);
         }
     }

@@ -2,6 +2,7 @@
 
 use std::alloc::{AllocError, Global};
 
+// not `to_digit`, which takes small letters too
 fn digit_of(letter: u8) -> Option<u8> {
     match letter {
         b'0'..=b'9' => Some(letter - b'0'),

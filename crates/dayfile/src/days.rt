@@ -21,6 +21,7 @@ use registers::row::Row;
 use registers::store::Store;
 
 /// The row at a place of an engine's store, or `None` beyond the last; the state is as it stood.
+// `kept` is of the engine before and after; `small` is there so that the next place is no overflow
 fn row_at<S: Store>(engine: &mut Engine<S>, place: usize) -> Option<Row>
     ensures answer { result ≡ slice_get engine.old.state.rows place }
     ensures kept { engine.new.state ≡ engine.old.state }

@@ -91,6 +91,7 @@ impl<S: Store> Engine<S> {
             number: security,
             ratio,
         })?;
+        // `as`, here and below: proved to lose nothing
         Ok(self.securities.count() as i64)
     }
 

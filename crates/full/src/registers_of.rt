@@ -100,6 +100,7 @@ impl<'a> Raised<'a> {
 
 /// Raises a blocked figure by an amount. Refuses (10) where the limit does not cover the raised figure
 /// and the floor; the figure, which is raised first, is then set back.
+// `blocked`, as of the guard: about the one figure that it borrows
 fn raise_covered(blocked: &mut i64, cover: Cover) -> Result<(), Refusal>
     requires blocked { Within blocked.old }
     ensures answer { is_ok result ≡ int_le (pos cover.floor) (cover.limit -ℤ (blocked.old +ℤ pos cover.amount.units)) }

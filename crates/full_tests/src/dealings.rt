@@ -7,7 +7,7 @@ use crate::support::{
 };
 use full::engine::Engine;
 use full_runs::call::Call;
-use orders::order::Side;
+use orders::order::{Mode, Side};
 use orders::terms::Announcement;
 use registers::image;
 use registers::image::ImageStore;
@@ -45,7 +45,10 @@ fn announcements_that_are_refused(rt: HostRuntime) {
     let mut engine = Engine::new(RowStore::new(&mut table), RESERVE);
     open_registers(&rt, &mut engine, 201, 10);
     let good = order(Side::Sell, 1, 802, 1, 50);
-    let partial = Announcement { mode: 2, ..good };
+    let partial = Announcement {
+        mode: Mode::Partial as u8,
+        ..good
+    };
     let other = Announcement {
         security: 6,
         ..good

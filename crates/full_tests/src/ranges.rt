@@ -12,6 +12,7 @@ use registers::row::{Figures, Row};
 use registers::store::Store;
 use std::process::Abort;
 
+/// As the rules give it, and not as the code has it.
 const MOST: i64 = 1_000_000_000_000_000;
 
 /// Adds the rows to an empty image, makes calls over it, and compares the figures that they leave with

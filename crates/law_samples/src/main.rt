@@ -90,6 +90,7 @@ fn show_first(rt: &HostRuntime, calls: &[Call]) -> io::Result<()> {
     show_run(rt, RowStore::new(&mut table), calls)?;
     println!(rt; "{count} calls over an image store")?;
     let mut bytes = [0; 255];
+    // long enough for a header
     let _ = image::format(&mut bytes);
     show_run(rt, ImageStore::new(&mut bytes), calls)
 }

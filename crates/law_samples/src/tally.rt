@@ -18,7 +18,7 @@ pub struct Note {
     pub back: u32,
 }
 
-/// A register with its blocked figure when it was opened, and how often a trade left a rest there.
+/// A register with its key, its blocked figure when it was opened, and how often a trade left a rest there.
 #[derive(Clone, Copy)]
 pub struct Opened {
     pub key: Key,
@@ -32,6 +32,8 @@ pub struct Tally {
     pub opened: BTreeMap<Key, Opened>,
     pub notes: BTreeMap<u32, Note>,
 }
+
+// as short in the tests of `registers`: no crate is for these alone
 
 /// What a quantity costs at a price, or `None` where one lies outside its range, as a rest of 0 does.
 fn cost(quantity: u32, price: u32) -> Option<u64> {

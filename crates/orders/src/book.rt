@@ -35,6 +35,8 @@ impl Book {
         }
     }
 
+    // `within` and `inside`, here and below: the same bound, in numbers and as indexing asks for it
+
     /// The place of the live order of a number, or `None` where there is none.
     #[tactic(auto, using(crate::proofs::Tables::place_of_map))]
     pub(crate) fn place_of(&self, number: u32) -> Option<usize>

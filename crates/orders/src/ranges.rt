@@ -10,8 +10,8 @@ use crate::refusal::Refusal;
 use crate::terms::{Announcement, Bargain, Deal, Terms};
 use registers::ranges::{Amount, Price, Quantity};
 
-// the rules of arguments: each is one test of the library under the name of its rule, and no function differs from
-// another but for that
+// the rules of arguments: each is one comparison, or one test of the library, under the name of its rule, and one
+// function for all would be no plainer
 
 /// Whether an account code is from 100 to 999,999.
 #[tactic(auto, using(std::proofs::lemmas::Bool::Decides::nat_tests), unfolding(crate::specs::Terms::code_ok))]

@@ -14,6 +14,8 @@ use seek::Keyed;
 /// The greatest value of a figure, and with a minus the least.
 pub const MOST: i64 = 1_000_000_000_000_000;
 
+// not `contains`: tried, and over signed numbers the proof did not close; `bounds`, here and below, is what the answer is
+// to whoever makes an `InRange` of it
 #[tactic(auto, unfolding(crate::specs::Registers::bounded))]
 fn is_bounded(figure: i64) -> bool
     ensures answer { result ≡ bounded figure }

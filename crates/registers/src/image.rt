@@ -113,6 +113,8 @@ fn find_in(bytes: &[u8], key: Key) -> Option<usize>
     seek::find_in(&rows, key)
 }
 
+// what `write` answers is known here and below: the bytes of the field are required
+
 fn write_key(bytes: &mut [u8], at: usize, key: Key)
     requires { at + 7 ≤ length bytes.old }
     ensures { bytes.new ≡ spliced 7 at (key_bytes key) bytes.old }
@@ -155,7 +157,7 @@ pub fn format(bytes: &mut [u8]) -> Result<(), TooShort>
 }
 
 // `put_in` and `add_in` stand apart from the store: a method that writes and lends the bytes to be read forgets
-// what it knows of them
+// what it knows of them; which bytes they leave is of the bytes before and after
 fn put_in(bytes: &mut [u8], place: usize, figures: Figures) -> Result<(), StoreFault>
     ensures answer { result ≡ put_answer (image_rows bytes.old) place }
     ensures after { image_rows bytes.new ≡ put_row (image_rows bytes.old) place figures }
@@ -180,6 +182,7 @@ fn add_in(bytes: &mut [u8], row: Row) -> Result<(), StoreFault>
         return Err(StoreFault::Full);
     }
     write_row(bytes, HEADER + count * ROW, row);
+    // the count lies within the header, and the cast is proved to lose nothing
     let _ = write(bytes, 5, count as u16 + 1);
     Ok(())
 }

@@ -14,6 +14,7 @@ fn show_image(rt: &HostRuntime, what: &str, bytes: &mut [u8]) -> io::Result<()> 
 
 fn sound(count: u8) -> [u8; 38] {
     let mut bytes = [0; 38];
+    // long enough for a header
     let _ = image::format(&mut bytes);
     bytes[6] = count;
     bytes[7] = 1;

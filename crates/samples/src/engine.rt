@@ -14,6 +14,8 @@ use registers::store::Store;
 use registers::table::RowStore;
 use std::io;
 
+// admit, credit and withdraw: short names for cases of `Call`, which these lists alone are full of
+
 fn admit(security: u16, ratio: u16) -> Call {
     Call::Admit { security, ratio }
 }
@@ -101,6 +103,7 @@ pub fn show(rt: &HostRuntime) -> io::Result<()> {
     show_over(rt, RowStore::new(&mut table))?;
     println!(rt; "engine over an image store")?;
     let mut bytes = [0; 255];
+    // long enough for a header
     let _ = image::format(&mut bytes);
     show_over(rt, ImageStore::new(&mut bytes))
 }

@@ -11,7 +11,7 @@ use registers::store::Store;
 use registers::table::RowStore;
 use std::{fmt, io};
 
-/// What a store answered, to be printed.
+/// What a store answered, to be printed: no number, where the engine answers one.
 #[derive(Clone, Copy)]
 struct Told(Result<(), StoreFault>);
 
