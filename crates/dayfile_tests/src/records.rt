@@ -1,6 +1,6 @@
 //! Letters, records and what they ask for.
 
-use crate::support::{DAY, check_listing};
+use crate::support::{DAY, check, check_listing};
 use day_records::fault::{FileFault, Misread};
 use day_records::letters::shape;
 use day_records::placed::Placed;
@@ -42,9 +42,10 @@ fn lengths_of_records(rt: HostRuntime) {
         (b'T', 20),
         (b'D', 10),
     ] {
-        assert_eq!(rt;
+        check(
+            &rt,
             shape(letter).map(|shape| (shape.length, shape.kind.letter())),
-            Some((length, char::from(letter)))
+            Some((length, char::from(letter))),
         );
     }
 }
@@ -63,9 +64,9 @@ fn records_of_a_day(rt: HostRuntime) -> Result<(), Fail> {
             place: 31,
         }),
     ];
-    assert_eq!(rt; items.as_slice(), expected.as_slice());
-    assert_eq!(rt; Record::Open(&DAY[8..31]).length(), 23);
-    assert_eq!(rt; Record::Withdraw(&DAY[32..36]).kind().letter(), 'W');
+    check(&rt, items.as_slice(), expected.as_slice());
+    check(&rt, Record::Open(&DAY[8..31]).length(), 23);
+    check(&rt, Record::Withdraw(&DAY[32..36]).kind().letter(), 'W');
     Ok(())
 }
 
@@ -77,8 +78,8 @@ fn fault_of_the_header(rt: HostRuntime) -> Result<(), Fail> {
         fault: FileFault::BadHeader,
         place: 0,
     })];
-    assert_eq!(rt; items.as_slice(), expected.as_slice());
-    assert_eq!(rt; FileFault::BadHeader.number(), 33);
+    check(&rt, items.as_slice(), expected.as_slice());
+    check(&rt, FileFault::BadHeader.number(), 33);
     Ok(())
 }
 
@@ -94,19 +95,24 @@ fn refused(answer: Result<Call, LineRefusal>) -> Option<(u8, char)> {
 /// Fields that are cut short give no call, and this level has none for posting and debiting.
 #[test]
 fn records_without_a_call(rt: HostRuntime) {
-    assert_eq!(rt;
+    check(
+        &rt,
         refused(call(Record::Withdraw(&[0, 0, 0]))),
-        Some((32, 'F'))
+        Some((32, 'F')),
     );
-    assert_eq!(rt; refused(call(Record::Open(&DAY[8..30]))), Some((32, 'F')));
-    assert_eq!(rt; refused(call(Record::Post(&[0; 10]))), Some((5, 'L')));
-    assert_eq!(rt; refused(call(Record::Debit(&[0; 10]))), Some((5, 'L')));
+    check(
+        &rt,
+        refused(call(Record::Open(&DAY[8..30]))),
+        Some((32, 'F')),
+    );
+    check(&rt, refused(call(Record::Post(&[0; 10]))), Some((5, 'L')));
+    check(&rt, refused(call(Record::Debit(&[0; 10]))), Some((5, 'L')));
 }
 
 #[test]
 fn numbers_of_faults(rt: HostRuntime) {
-    assert_eq!(rt; FileFault::TooLong.number(), 30);
-    assert_eq!(rt; FileFault::UnknownLetter.number(), 31);
-    assert_eq!(rt; FileFault::CutShort.number(), 32);
-    assert_eq!(rt; FileFault::BadHeader.number(), 33);
+    check(&rt, FileFault::TooLong.number(), 30);
+    check(&rt, FileFault::UnknownLetter.number(), 31);
+    check(&rt, FileFault::CutShort.number(), 32);
+    check(&rt, FileFault::BadHeader.number(), 33);
 }

@@ -1,6 +1,6 @@
 //! A day over a byte image, line by line, and the store that it leaves.
 
-use crate::support::DAY;
+use crate::support::{DAY, check};
 use day_records::kind::Kind;
 use day_runs::runs::run_day;
 use dayfile::day::Day;
@@ -15,13 +15,14 @@ use std::test::Fail;
 #[test]
 fn a_day_over_an_image(rt: HostRuntime) {
     let mut bytes = [0; 69];
-    assert_eq!(rt; image::format(&mut bytes), Ok(()));
+    check(&rt, image::format(&mut bytes), Ok(()));
     let mut day = Day::new(ImageStore::new(&mut bytes), &DAY);
-    assert_eq!(rt; day.by_ref().take(10).count(), 4);
+    check(&rt, day.by_ref().take(10).count(), 4);
     let mut store = day.into_store();
-    assert_eq!(rt;
+    check(
+        &rt,
         store.row(0).map(|row| (row.key.code, row.figures.limit)),
-        Some((701, 201))
+        Some((701, 201)),
     );
 }
 
@@ -29,18 +30,19 @@ fn a_day_over_an_image(rt: HostRuntime) {
 #[test]
 fn a_day_that_is_stopped(rt: HostRuntime) {
     let mut bytes = [0; 69];
-    assert_eq!(rt; image::format(&mut bytes), Ok(()));
+    check(&rt, image::format(&mut bytes), Ok(()));
     let mut day = Day::new(ImageStore::new(&mut bytes), &DAY);
-    assert_eq!(rt; day.engine.store.count(), 0);
+    check(&rt, day.engine.store.count(), 0);
     let first = day.next();
-    assert_eq!(rt; day.engine.store.count(), 1);
-    assert_eq!(rt;
+    check(&rt, day.engine.store.count(), 1);
+    check(
+        &rt,
         first,
         Some(Line::Record {
             number: 1,
             kind: Kind::Open,
-            outcome: Ok(1)
-        })
+            outcome: Ok(1),
+        }),
     );
 }
 
@@ -48,11 +50,15 @@ fn a_day_that_is_stopped(rt: HostRuntime) {
 #[test]
 fn a_store_with_rows(rt: HostRuntime) -> Result<(), Fail> {
     let mut bytes = [0; 69];
-    assert_eq!(rt; image::format(&mut bytes), Ok(()));
+    check(&rt, image::format(&mut bytes), Ok(()));
     let mut day = Day::new(ImageStore::new(&mut bytes), &DAY);
-    assert_eq!(rt; day.by_ref().take(10).count(), 4);
+    check(&rt, day.by_ref().take(10).count(), 4);
     let text = listing(rt.alloc(), day.into_store(), b"")?;
-    assert_eq!(rt; text.as_str(), "1 fault 33 F 0\nend 0\nR 1 701 0 201 0 0\n");
+    check(
+        &rt,
+        text.as_str(),
+        "1 fault 33 F 0\nend 0\nR 1 701 0 201 0 0\n",
+    );
     Ok(())
 }
 
@@ -60,13 +66,14 @@ fn a_store_with_rows(rt: HostRuntime) -> Result<(), Fail> {
 #[test]
 fn a_whole_day(rt: HostRuntime) {
     let mut bytes = [0; 69];
-    assert_eq!(rt; image::format(&mut bytes), Ok(()));
+    check(&rt, image::format(&mut bytes), Ok(()));
     let engine = run_day(ImageStore::new(&mut bytes), &DAY);
     let reserve = engine.reserve;
     let mut store = engine.into_store();
-    assert_eq!(rt; (reserve, store.count()), (200, 1));
-    assert_eq!(rt;
+    check(&rt, (reserve, store.count()), (200, 1));
+    check(
+        &rt,
         store.row(0).map(|row| (row.key.code, row.figures.limit)),
-        Some((701, 201))
+        Some((701, 201)),
     );
 }

@@ -4,6 +4,7 @@ use dayfile::listing::listing;
 use registers::row::BLANK;
 use registers::table::RowStore;
 use std::alloc::{AllocError, Global};
+use std::fmt::Debug;
 use std::process::Abort;
 use std::test::Fail;
 
@@ -20,6 +21,12 @@ pub(crate) fn list(heap: Global, file: &[u8]) -> Result<String, AllocError> {
     listing(heap, RowStore::new(&mut table), file)
 }
 
+/// Compares what is found with what is expected: one function, since every comparison is proved where it
+/// stands.
+pub(crate) fn check<T: Copy + PartialEq + Debug>(rt: &impl Abort, found: T, expected: T) {
+    assert_eq!(rt; found, expected);
+}
+
 /// Compares the listing of a file with what is expected.
 pub(crate) fn check_listing(
     rt: &impl Abort,
@@ -28,6 +35,6 @@ pub(crate) fn check_listing(
     expected: &str,
 ) -> Result<(), Fail> {
     let text = list(heap, file)?;
-    assert_eq!(rt; text.as_str(), expected);
+    check(rt, text.as_str(), expected);
     Ok(())
 }

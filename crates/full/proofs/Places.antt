@@ -138,13 +138,3 @@ module _ (rs : List Row) (buyer seller security : ℕ) (r : Four) where
   four_standing s q value block =
       All-from_recursion (λ (m : Move). FiguresAt rs m.place m.before) (moves_of r q value block)
       (held_figures rs _ _ s.payer, (held_figures rs _ _ s.payee, (held_figures rs _ _ s.taker, (held_figures rs _ _ s.giver, tt))))
-
--- what putting the moves of a trade asks
-pub record Ready (rs : List Row) (ms : List Move) : Type 0 where
-  pub apart : Apart ms
-  pub standing : Standing rs ms
-
-pub four_ready : (rs t : List Row) (buyer seller security : ℕ) (r : Four) (q value block : ℕ) (ms : List Move) → Ok r ≡ four_of rs buyer seller security → (buyer ≡ seller → ⊥) → t ≡ rs → ms ≡ moves_of r q value block → Ready t ms
-four_ready rs t buyer seller security r q value block ms e ne same is =
-    let parts = four_parts rs buyer seller security r (sym e) in
-    rw (same, is) (record { apart = four_apart rs buyer seller security r parts ne q value block; standing = four_standing rs buyer seller security r parts q value block })

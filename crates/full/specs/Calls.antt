@@ -1,5 +1,5 @@
 -- What each call does: its checks in their order, its answer, and the state that it leaves.
-use Rattle.std.specs.Prelude.{ℕ, ◌+◌, cond, not, ◌&&◌, ◌||◌, [], ◌∷◌, ◌++◌, length, pos, is_some, Some, None, Ok, Option, Result, ◌==◌, nat_lt, slice_set}
+use Rattle.std.specs.Prelude.{ℕ, ◌+◌, cond, not, ◌&&◌, ◌||◌, List, [], ◌∷◌, ◌++◌, length, pos, is_some, Some, None, Ok, Option, Result, ◌==◌, nat_lt, slice_set}
 use Rattle.registers.specs.declared.row.Key.{Key}
 use Rattle.registers.specs.declared.row.Row.{Row}
 use Rattle.registers.specs.declared.fault.StoreFault.TheVariants as faults
@@ -68,18 +68,24 @@ credit_of s code security amount =
 abbrev pub cover_of : Live → Held → Held → Held
 cover_of o cash holding = cond ((key_of o).kind == 1) cash holding
 
+-- both have to be open
+unfoldable pub cover_at : List Row → Live → Result Held Refusal
+cover_at rs o =
+    and_then (held_at rs (cash_key o.account)) (λ cash.
+    and_then (held_at rs (holding_key o.account o.security)) (λ holding.
+    Ok (cover_of o cash holding)))
+
 -- announce: 5, 8, 7, 9, 6, 25, 10; answers the block. This level answers 5 to partial mode.
 unfoldable pub announce_of : State → Announcement → Result Plan Refusal
 announce_of s a =
     demand (a.mode == 1) BadValue
     (and_then (ready_of s.securities s.orders s.last_order a) (λ r.
-    and_then (held_at s.rows (cash_key a.account)) (λ cash.
-    and_then (held_at s.rows (holding_key a.account a.security)) (λ holding.
-    and_then (block_on (cover_of r.order cash holding) (units_of r.order) (floor_of s.reserve (key_of r.order))) (λ b.
+    and_then (cover_at s.rows r.order) (λ h.
+    and_then (block_on h (units_of r.order) (floor_of s.reserve (key_of r.order))) (λ b.
     Ok (record {
       answer = pos (units_of r.order);
       next = with_last_order (with_orders (with_rows s (put_held s.rows b)) (slice_set s.orders r.place (Some r.order))) r.order.number;
-    }))))))
+    })))))
 
 -- withdraw: 11, 6, 25, 26; answers the amount released
 unfoldable pub withdraw_of : State → ℕ → Result Plan Refusal

@@ -18,7 +18,7 @@ use Rattle.full.specs.Plans.{State, Plan, with_rows, with_orders, with_last_trad
 use Rattle.orders.specs.Steps.{and_then, demand}
 use Rattle.full.specs.Blocks.{held_at, FiguresAt}
 use Rattle.orders.specs.Blocks.{cash_key, holding_key}
-use Rattle.orders.specs.Checks.{is_full, pair_of}
+use Rattle.orders.specs.Checks.{PairOf, is_full, pair_of}
 
 -- the four registers of a trade with full collateral: the buyer's cash, the seller's cash, the
 -- buyer's holding and the seller's; check 6 runs over all of them
@@ -65,6 +65,12 @@ abbrev pub moved_all : List Row → List Move → List Row
 moved_all rs [] = rs
 moved_all rs (m ∷ ms) = moved_all (moved rs m) ms
 
+-- the moves of a trade between two orders: 6, 25, 26
+unfoldable pub exchange_of : List Row → PairOf → Result (List Move) Refusal
+exchange_of rs p =
+    and_then (four_of rs p.buy.account p.sell.account p.buy.security) (λ r.
+    settle_of r p.quantity (money_of p.quantity p.price) (money_of p.quantity p.buy.price))
+
 -- an order's rest, lowered in its place
 abbrev pub lower_at : List (Option Live) → ℕ → ℕ → List (Option Live)
 lower_at os i q = slice_set os i (lowered (slice_index_or os i None) q)
@@ -75,12 +81,11 @@ unfoldable pub trade_of : State → Deal → Result Plan Refusal
 trade_of s d =
     and_then (pair_of s.orders s.last_trade d) (λ p.
     demand (is_full p.buy.mode) BadValue
-    (and_then (four_of s.rows p.buy.account p.sell.account p.buy.security) (λ r.
-    and_then (settle_of r p.quantity (money_of p.quantity p.price) (money_of p.quantity p.buy.price)) (λ ms.
+    (and_then (exchange_of s.rows p) (λ ms.
     Ok (record {
       answer = pos (money_of p.quantity p.price);
       next = with_last_trade (with_orders (with_rows s (moved_all s.rows ms)) (lower_at (lower_at s.orders p.buy_place p.quantity) p.sell_place p.quantity)) d.number;
-    })))))
+    }))))
 
 -- moves whose places all differ
 abbrev pub Apart : List Move → Type 0

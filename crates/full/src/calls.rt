@@ -1,16 +1,19 @@
 //! The calls of Level One, but for the trade.
 
-ghost use Rattle.std.specs.Prelude.{◌≡◌, ◌≤◌, OnOk};
+ghost use Rattle.std.specs.Prelude.{◌≡◌, ◌≤◌, OnOk, IfOk};
 ghost use Rattle.orders.specs.declared.refusal.Refusal.TheVariants.{BadValue};
+ghost use Rattle.orders.specs.State.{live_of};
 ghost use Rattle.orders.specs.Steps.{or_refuse};
 ghost use Rattle.full.specs.Plans.{begin, Done};
-ghost use Rattle.full.specs.Calls.{admit_of, opening_key, open_of, asset_key, credit_of, announce_of, withdraw_of};
+ghost use Rattle.full.specs.Blocks.{FiguresAt};
+ghost use Rattle.full.specs.Calls.{admit_of, opening_key, open_of, asset_key, credit_of, cover_at, announce_of, withdraw_of};
 
 use crate::engine::Engine;
+use crate::held::Held;
 use crate::registers_of::{block_on, credit_on, floor, held, put_held, release_on};
 use orders::blocks::{cash_key, holding_key};
 use orders::checks::ready;
-use orders::order::{Book, Mode};
+use orders::order::{Book, Mode, Order};
 use orders::ranges::{amount as amount_of, code_ok, limit_ok, security_ok};
 use orders::refusal::Refusal;
 use orders::security::{Securities, Security};
@@ -137,6 +140,24 @@ impl<S: Store> Engine<S> {
     }
 }
 
+/// The register that covers an order with full collateral: its account's cash or holding. Refuses (6)
+/// where one of the two is not open; the store is as it stood.
+#[tactic(auto, unfolding(crate::specs::Calls::cover_at))]
+fn cover<S: Store>(store: &mut S, order: Order) -> Result<Held, Refusal>
+    ensures answer { result ≡ cover_at (S.Store.rows store.old) (live_of order) }
+    ensures stands { IfOk result (λ h. FiguresAt (S.Store.rows store.old) h.place h.figures) }
+    ensures kept { S.Store.rows store.new ≡ S.Store.rows store.old }
+    ensures roomy { S.Store.capacity store.new ≡ S.Store.capacity store.old }
+{
+    let cash = held(store, cash_key(order.account))?;
+    let holding = held(store, holding_key(order.account, order.security))?;
+    if order.block_key().is(Kind::Cash) {
+        Ok(cash)
+    } else {
+        Ok(holding)
+    }
+}
+
 impl<S: Store> Engine<S> {
     /// Announces an order with full collateral; answers its block. Refuses values outside their ranges
     /// and partial mode (5), a number not above the last (8), a security that is not admitted (7), a
@@ -150,13 +171,11 @@ impl<S: Store> Engine<S> {
             return Err(Refusal::BadValue);
         }
         let ready = ready(&self.securities, &self.book, a)?;
-        let cash = held(&mut self.store, cash_key(a.account))?;
-        let holding = held(&mut self.store, holding_key(a.account, a.security))?;
-        let key = ready.order.block_key();
+        let register = cover(&mut self.store, ready.order)?;
         let amount = ready.order.block(ready.order.rest);
-        let cover = if key.is(Kind::Cash) { cash } else { holding };
-        let blocked = block_on(cover, amount, floor(self.reserve, key))?;
-        put_held(&mut self.store, cover, blocked.figures);
+        let floor = floor(self.reserve, ready.order.block_key());
+        let blocked = block_on(register, amount, floor)?;
+        put_held(&mut self.store, register, blocked.figures);
         self.book.add(ready.place, ready.order);
         Ok(amount.into())
     }

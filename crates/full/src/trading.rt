@@ -1,10 +1,11 @@
 //! Trades.
 
-ghost use Rattle.std.specs.Prelude.{◌≡◌, true, IfOk};
+ghost use Rattle.std.specs.Prelude.{◌≡◌, ◌≢◌, true, IfOk};
 ghost use Rattle.std.specs.List.{list_all};
 ghost use Rattle.registers.specs.Registers.{in_range};
 ghost use Rattle.full.specs.Plans.{Done};
-ghost use Rattle.full.specs.Trades.{four_of, move_to, settle_of, trade_of, moves_of};
+ghost use Rattle.orders.specs.Views.{pair_as};
+ghost use Rattle.full.specs.Trades.{four_of, move_to, settle_of, exchange_of, trade_of, moves_of, Apart, Standing};
 
 use crate::engine::Engine;
 use crate::held::Held;
@@ -13,6 +14,7 @@ use crate::ordering::put_moves;
 use crate::registers_of::{credited, held, paid};
 use orders::blocks::{cash_key, holding_key};
 use orders::checks::pair;
+use orders::found::Pair;
 use orders::order::Mode;
 use orders::refusal::Refusal;
 use orders::terms::Deal;
@@ -89,6 +91,23 @@ pub(crate) fn settle(
     ])
 }
 
+/// The moves of a trade with full collateral between two orders. Refuses (6) a register that is not
+/// open, figures out of range (25), and figures that would leave it (26), each over all four; the
+/// store is as it stood.
+#[tactic(auto, unfolding(crate::specs::Trades::exchange_of))]
+fn exchange<S: Store>(store: &mut S, p: Pair) -> Result<[Move; 4], Refusal>
+    requires { p.buy.account ≢ p.sell.account }
+    ensures answer { result ≡ exchange_of (S.Store.rows store.old) (pair_as p) }
+    ensures apart { IfOk result (λ ms. Apart ms) }
+    ensures standing { IfOk result (λ ms. Standing (S.Store.rows store.old) ms) }
+    ensures kept { S.Store.rows store.new ≡ S.Store.rows store.old }
+    ensures roomy { S.Store.capacity store.new ≡ S.Store.capacity store.old }
+{
+    let four = four(store, p.buy.account, p.sell.account, p.buy.security)?;
+    let value = money(p.quantity, p.price);
+    settle(four, p.quantity, value, money(p.quantity, p.buy.price))
+}
+
 impl<S: Store> Engine<S> {
     /// Carries out a trade between two live orders with full collateral; answers its money. Both rests
     /// fall by the quantity, the securities and the money change hands, and the block of the quantity
@@ -103,23 +122,11 @@ impl<S: Store> Engine<S> {
         if pair.buy.mode != Mode::Full {
             return Err(Refusal::BadValue);
         }
-        let four = four(
-            &mut self.store,
-            pair.buy.account,
-            pair.sell.account,
-            pair.buy.security,
-        )?;
-        let value = money(pair.quantity, pair.price);
-        let moves = settle(
-            four,
-            pair.quantity,
-            value,
-            money(pair.quantity, pair.buy.price),
-        )?;
+        let moves = exchange(&mut self.store, pair)?;
         put_moves(&mut self.store, moves);
         self.book.lower(pair.bought, pair.quantity);
         self.book.lower(pair.sold, pair.quantity);
         self.trade = d.number;
-        Ok(value.into())
+        Ok(money(pair.quantity, pair.price).into())
     }
 }

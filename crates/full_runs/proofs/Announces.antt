@@ -1,5 +1,5 @@
 -- An announcement keeps the promise.
-use Rattle.std.proofs.Common.{◌≡◌, ℕ, suc, ◌+◌, ◌-◌, ◌<◌, Bool, true, false, cond, ◌&&◌, eqb, ltb, leb, List, [], ◌∷◌, ◌++◌, length, get_or, set, Some, None, Ok, Option, unwrap_or, sym, refl, ap, ◌∙◌, subst, arith}
+use Rattle.std.proofs.Common.{◌≡◌, ℕ, suc, ◌+◌, ◌-◌, ◌<◌, Bool, true, false, cond, ◌&&◌, eqb, ltb, leb, List, [], ◌∷◌, ◌++◌, length, get_or, set, Some, None, Ok, Err, Option, Result, unwrap_or, sym, refl, ap, ◌∙◌, subst, arith}
 use Rattle.std.specs.List.{slice_get}
 use Rattle.std.specs.Option.{option_map}
 use Rattle.std.proofs.lemmas.Bool.{and_parts, ltb-true, leb-true}
@@ -8,6 +8,7 @@ use Rattle.seek.specs.Place.{place_of, on_by}
 use Rattle.registers.specs.declared.row.Key.{Key}
 use Rattle.registers.specs.declared.row.Row.{Row}
 use Rattle.registers.specs.Registers.{same_key}
+use Rattle.orders.specs.declared.refusal.Refusal.{Refusal}
 use Rattle.orders.specs.declared.refusal.Refusal.TheVariants.{BadValue, OrderNumber, NotAdmitted, OrdersFull}
 use Rattle.orders.specs.declared.terms.Announcement.{Announcement}
 use Rattle.orders.specs.declared.order.Mode.{Mode}
@@ -22,7 +23,7 @@ use Rattle.orders.specs.Blocks.{cash_key, holding_key, block_key, key_of, units_
 use Rattle.full.specs.declared.held.Held.{Held}
 use Rattle.full.specs.Plans.{State, with_rows, with_orders, with_last_order}
 use Rattle.full.specs.Blocks.{held_at, block_on, put_held, floor_of, covered}
-use Rattle.full.specs.Calls.{announce_of, cover_of}
+use Rattle.full.specs.Calls.{announce_of, cover_at, cover_of}
 use Rattle.full_runs.specs.declared.call.Call.TheVariants.{Announce}
 use Rattle.full_runs.specs.Tally.{Tally, Note, entered, order_for, ratio_noted, held_by, owed}
 use Rattle.full_runs.specs.Law.{Books, Promise}
@@ -122,6 +123,17 @@ cover_by rows c d Full Sell ac se e x y = y
 cover_by rows c d Partial Buy ac se e x y = no_case (cc)
 cover_by rows c d Partial Sell ac se e x y = no_case (cc)
 
+cover_from : (rows : List Row) (o : Live) (c : Held) (x y : Result Held Refusal) → o.mode ≡ Full → held_at rows (cash_key o.account) ≡ x → held_at rows (holding_key o.account o.security) ≡ y → and_then x (λ cash. and_then y (λ holding. Ok (cover_of o cash holding))) ≡ Ok c → Open rows (key_of o) c
+cover_from rows o c (Err w) y m e f g = no_case (cc)
+cover_from rows o c (Ok x) (Err w) m e f g = no_case (cc)
+cover_from rows o c (Ok x) (Ok y) m e f g =
+    let s : cover_of o x y ≡ c = cc in
+    subst (Open rows (key_of o)) s (cover_by rows x y o.mode o.side o.account o.security m (open_at rows (cash_key o.account) x e) (open_at rows (holding_key o.account o.security) y f))
+
+cover_open : (rows : List Row) (o : Live) (c : Held) → o.mode ≡ Full → cover_at rows o ≡ Ok c → Open rows (key_of o) c
+unfolding cover_at
+cover_open rows o c m e = cover_from rows o c (held_at rows (cash_key o.account)) (held_at rows (holding_key o.account o.security)) m refl refl e
+
 full_mode : (n : ℕ) → eqb n 1 ≡ true → unwrap_or (mode_of n) Full ≡ Full
 full_mode n e = rw e
 
@@ -136,22 +148,15 @@ module _ (reserve : ℕ) (t : Tally) (s : State) (h : Promise reserve t s) (a : 
   abbrev with_note : Live → Tally
   with_note o = record { ratios = t.ratios; opened = t.opened; notes = t.notes ++ record { order = o; traded = 0; back = 0 } ∷ []; times = t.times }
 
-  announced_promise : (r : PlacedOf) (cash holding b : Held) → eqb a.mode 1 ≡ true → ready_of s.securities s.orders s.last_order a ≡ Ok r → held_at s.rows (cash_key a.account) ≡ Ok cash → held_at s.rows (holding_key a.account a.security) ≡ Ok holding →
-      block_on (cover_of r.order cash holding) (units_of r.order) (floor_of s.reserve (key_of r.order)) ≡ Ok b →
+  announced_promise : (r : PlacedOf) (c b : Held) → eqb a.mode 1 ≡ true → ready_of s.securities s.orders s.last_order a ≡ Ok r → cover_at s.rows r.order ≡ Ok c → block_on c (units_of r.order) (floor_of s.reserve (key_of r.order)) ≡ Ok b →
       Promise reserve (entered t (Announce a)) (with_last_order (with_orders (with_rows s (put_held s.rows b)) (set s.orders r.place (Some r.order))) r.order.number)
-  announced_promise r cash holding b m e ec eh eb =
+  announced_promise r c b m e ec eb =
       let rd = ready_readied s.securities s.orders s.last_order a r e in
       let is : r.order ≡ order_for a (ratio_noted a.security t.ratios) = rd.order ∙ ap (λ (ss : List Admitted). order_for a (ratio_noted a.security ss)) h.ratios in
       let full : r.order.mode ≡ Full = ap (λ (o : Live). o.mode) is ∙ full_mode a.mode m in
-      let ac : a.account ≡ r.order.account = sym (ap (λ (o : Live). o.account) is) in
-      let se : a.security ≡ r.order.security = sym (ap (λ (o : Live). o.security) is) in
-      let oc : Open s.rows (cash_key r.order.account) cash = subst (λ (n : ℕ). Open s.rows (cash_key n) cash) ac (open_at s.rows (cash_key a.account) cash ec) in
-      let oh : Open s.rows (holding_key r.order.account r.order.security) holding =
-      subst (λ (n : ℕ). Open s.rows (holding_key r.order.account n) holding) se (subst (λ (n : ℕ). Open s.rows (holding_key n a.security) holding) ac (open_at s.rows (holding_key a.account a.security) holding eh)) in
-      let cover : Open s.rows (key_of r.order) (cover_of r.order cash holding) = cover_by s.rows cash holding r.order.mode r.order.side r.order.account r.order.security full oc oh in
-      let p = blocked_on (cover_of r.order cash holding) b (units_of r.order) (floor_of s.reserve (key_of r.order)) eb in
-      let cv : covered (cover_of r.order cash holding).figures (units_of r.order) (floor_of reserve (key_of r.order)) ≡ true = ap (λ (n : ℕ). covered (cover_of r.order cash holding).figures (units_of r.order) (floor_of n (key_of r.order))) (sym h.reserved) ∙ p.second in
-      let bk = blocked_books reserve t.opened t.notes t.times s.rows h.books (key_of r.order) (cover_of r.order cash holding) cover (units_of r.order) (with_note r.order).notes (grown t.notes r.order) cv in
+      let p = blocked_on c b (units_of r.order) (floor_of s.reserve (key_of r.order)) eb in
+      let cv : covered c.figures (units_of r.order) (floor_of reserve (key_of r.order)) ≡ true = ap (λ (n : ℕ). covered c.figures (units_of r.order) (floor_of n (key_of r.order))) (sym h.reserved) ∙ p.second in
+      let bk = blocked_books reserve t.opened t.notes t.times s.rows h.books (key_of r.order) c (cover_open s.rows r.order c full ec) (units_of r.order) (with_note r.order).notes (grown t.notes r.order) cv in
       subst (λ (o : Live). Promise reserve (with_note o) (with_last_order (with_orders (with_rows s (put_held s.rows b)) (set s.orders r.place (Some r.order))) r.order.number)) is
       (record {
         reserved = h.reserved;
@@ -165,7 +170,6 @@ module _ (reserve : ℕ) (t : Tally) (s : State) (h : Promise reserve t s) (a : 
   announce_keeps =
       by_demand reserve (entered t (Announce a)) (eqb a.mode 1) _ _ λ m.
       by_step reserve (entered t (Announce a)) (ready_of s.securities s.orders s.last_order a) _ λ r e.
-      by_step reserve (entered t (Announce a)) (held_at s.rows (cash_key a.account)) _ λ cash ec.
-      by_step reserve (entered t (Announce a)) (held_at s.rows (holding_key a.account a.security)) _ λ holding eh.
-      by_step reserve (entered t (Announce a)) (block_on (cover_of r.order cash holding) (units_of r.order) (floor_of s.reserve (key_of r.order))) _ λ b eb.
-      announced_promise r cash holding b m e ec eh eb
+      by_step reserve (entered t (Announce a)) (cover_at s.rows r.order) _ λ c ec.
+      by_step reserve (entered t (Announce a)) (block_on c (units_of r.order) (floor_of s.reserve (key_of r.order))) _ λ b eb.
+      announced_promise r c b m e ec eb

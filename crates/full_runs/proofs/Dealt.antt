@@ -17,13 +17,13 @@ use Rattle.full.specs.declared.held.Held.{Held}
 use Rattle.full.specs.declared.moves.Four.{Four}
 use Rattle.full.specs.declared.moves.Move.{Move}
 use Rattle.full.specs.Plans.{State, with_rows, with_orders, with_last_trade}
-use Rattle.full.specs.Trades.{four_of, settle_of, paid_of, raised_of, moves_of, moved_all, lower_at, trade_of, Apart}
+use Rattle.full.specs.Trades.{four_of, settle_of, paid_of, raised_of, moves_of, moved_all, lower_at, exchange_of, trade_of, Apart}
 use Rattle.full.proofs.Places.{Stands, Parts, four_parts, four_apart}
 use Rattle.full_runs.specs.declared.call.Call.TheVariants.{Trade}
 use Rattle.full_runs.specs.Keyed.{at, put}
 use Rattle.full_runs.specs.Tally.{Tally, Note, entered, number, rest_of, standing, with_traded, register_of, time_of, traded_on}
 use Rattle.full_runs.specs.Law.{Books, Orders, Promise, Whole, lives, slack_of}
-use Rattle.full_runs.proofs.Keeping.{Keeps, by_demand, by_step}
+use Rattle.full_runs.proofs.Keeping.{Keeps, by_demand, by_step, by_steps}
 use Rattle.full_runs.proofs.Keys.{all_at, at_key, put_apart}
 use Rattle.full_runs.proofs.Lives.{order_changed}
 use Rattle.full_runs.proofs.Moves.{Passed, two_checks, raised_books, freed_books}
@@ -268,10 +268,9 @@ module _ (reserve : ℕ) (t : Tally) (s : State) (h : Promise reserve t s) (d : 
 
 module _ (reserve : ℕ) (t : Tally) (s : State) (h : Promise reserve t s) (d : Deal) where
   pub trade_keeps : Keeps reserve (entered t (Trade d)) (trade_of s d)
-  unfolding trade_of
+  unfolding trade_of exchange_of
   trade_keeps =
       by_step reserve (entered t (Trade d)) (pair_of s.orders s.last_trade d) _ λ p ep.
       by_demand reserve (entered t (Trade d)) (is_full p.buy.mode) _ _ λ full.
-      by_step reserve (entered t (Trade d)) (four_of s.rows p.buy.account p.sell.account p.buy.security) _ λ r er.
-      by_step reserve (entered t (Trade d)) (settle_of r p.quantity (money_of p.quantity p.price) (money_of p.quantity p.buy.price)) _ λ m em.
+      by_steps reserve (entered t (Trade d)) (four_of s.rows p.buy.account p.sell.account p.buy.security) _ _ λ r er m em.
       dealt reserve t s h d p (pair_matched s.orders s.last_trade d p ep) full r er m em

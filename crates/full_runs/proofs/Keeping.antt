@@ -23,3 +23,8 @@ module _ (reserve : ℕ) (t : Tally) where
   pub by_there : {X : Type 0} (o : Option X) (e : Refusal) (k : X → Result Plan Refusal) → ((x : X) → o ≡ Some x → Keeps reserve t (k x)) → Keeps reserve t (and_then (or_refuse o e) k)
   by_there None e k h = tt
   by_there (Some x) e k h = h x refl
+
+  -- a step of two
+  pub by_steps : {X Y : Type 0} (r : Result X Refusal) (f : X → Result Y Refusal) (k : Y → Result Plan Refusal) → ((x : X) → r ≡ Ok x → (y : Y) → f x ≡ Ok y → Keeps reserve t (k y)) → Keeps reserve t (and_then (and_then r f) k)
+  by_steps (Err e) f k h = tt
+  by_steps (Ok x) f k h = by_step (f x) k (h x refl)

@@ -6,7 +6,7 @@ use Rattle.orders.specs.State.{Live, has_number, is_free, place_of_order}
 use Rattle.full_runs.specs.Law.{slot_for, places_of}
 
 -- one, where a test holds
-abbrev one : Bool → ℕ
+abbrev pub one : Bool → ℕ
 one b = cond b 1 0
 
 module _ (n : ℕ) where

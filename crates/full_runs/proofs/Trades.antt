@@ -27,13 +27,10 @@ use Rattle.seek.proofs.Cases.{no_case}
 use Rattle.full_runs.proofs.Keys.{at_key}
 use Rattle.full_runs.proofs.Passes.{passed, of_ok}
 use Rattle.full_runs.proofs.Rows.{key_same, put_other}
+use Rattle.full_runs.proofs.Slots.{one}
 use Rattle.full_runs.proofs.Steps.{Open}
 use Rattle.full_runs.proofs.Units.{Parts, left_over, units_parts}
 use Rattle.full_runs.proofs.Withdraws.{owed_here}
-
--- one, where a test holds
-abbrev one : Bool → ℕ
-one b = cond b 1 0
 
 -- a note once q of its order are traded
 module _ (x : Note) (q : ℕ) (w : Whole x) (l : q ≤ rest_of x) where

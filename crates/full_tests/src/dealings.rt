@@ -2,7 +2,7 @@
 
 use crate::market::{check_finished, finish, prepare};
 use crate::support::{
-    RESERVE, SECURITY, admit, buy, cash, check_rows, credit, figures, holding, make,
+    RESERVE, SECURITY, admit, buy, cash, check, check_rows, credit, figures, holding, make,
     open_registers, order, sell, trade, withdraw,
 };
 use full::engine::Engine;
@@ -136,13 +136,13 @@ fn the_same_day_over_both_stores(rt: HostRuntime) {
     let mut table = [BLANK; 5];
     let mut rows = whole_day(&rt, RowStore::new(&mut table));
     let mut bytes = [0; 162];
-    assert_eq!(rt; image::format(&mut bytes), Ok(()));
+    check(&rt, image::format(&mut bytes), Ok(()));
     let mut image = whole_day(&rt, ImageStore::new(&mut bytes));
     check_finished(&rt, &mut rows);
     check_finished(&rt, &mut image);
     // a store is asked through `&mut`, place by place
     for place in 0..rows.count() {
-        assert_eq!(rt; rows.row(place), image.row(place));
+        check(&rt, rows.row(place), image.row(place));
     }
 }
 
@@ -150,7 +150,7 @@ fn the_same_day_over_both_stores(rt: HostRuntime) {
 #[test]
 fn an_image_outlives_its_engine(rt: HostRuntime) {
     let mut bytes = [0; 162];
-    assert_eq!(rt; image::format(&mut bytes), Ok(()));
+    check(&rt, image::format(&mut bytes), Ok(()));
     let mut engine = Engine::new(ImageStore::new(&mut bytes), RESERVE);
     prepare(&rt, &mut engine);
     let mut engine = Engine::new(engine.into_store(), RESERVE);

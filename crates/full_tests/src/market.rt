@@ -1,7 +1,7 @@
 //! A market to trade in: a buyer, a seller, five orders and one trade.
 
 use crate::support::{
-    SECURITY, admit, buy, cash, check_rows, figures, holding, make, order, sell, withdraw,
+    SECURITY, admit, buy, cash, check, check_rows, figures, holding, make, order, sell, withdraw,
 };
 use full::engine::Engine;
 use full_runs::call::Call;
@@ -69,7 +69,7 @@ pub(crate) fn finish<S: Store>(rt: &impl Abort, engine: &mut Engine<S>) {
 
 /// Checks every row as the market leaves it once it is finished.
 pub(crate) fn check_finished<S: Store>(rt: &impl Abort, store: &mut S) {
-    assert_eq!(rt; store.count(), 5);
+    check(rt, store.count(), 5);
     let rows = [
         (0, figures(300, 0, 0)),
         (1, figures(9_900, 0, 0)),

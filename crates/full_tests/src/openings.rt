@@ -1,7 +1,7 @@
 //! Openings: a full store, and what is refused.
 
 use crate::support::{
-    RESERVE, SECURITY, admit, cash, check_rows, credit, figures, holding, make, opening,
+    RESERVE, SECURITY, admit, cash, check, check_rows, credit, figures, holding, make, opening,
 };
 use full::engine::Engine;
 use full_runs::call::Call;
@@ -25,7 +25,7 @@ fn a_store_with_room_for_one(rt: HostRuntime) {
     ];
     make(&rt, &mut engine, &steps);
     let mut store = engine.into_store();
-    assert_eq!(rt; store.count(), 1);
+    check(&rt, store.count(), 1);
     check_rows(&rt, &mut store, &[(0, figures(201, 0, 0))]);
 }
 

@@ -1,8 +1,8 @@
 //! Figures at the ends of their ranges, as an image may hold them.
 
 use crate::support::{
-    RESERVE, SECURITY, Step, Stored, admit, buy, check_rows, credit, figures, make, sell, trade,
-    withdraw,
+    RESERVE, SECURITY, Step, Stored, admit, buy, check, check_rows, credit, figures, make, sell,
+    trade, withdraw,
 };
 use full::engine::Engine;
 use orders::blocks::{cash_key, holding_key};
@@ -24,10 +24,10 @@ fn check_over_image(
     steps: &[Step],
     left: &[Stored],
 ) {
-    assert_eq!(rt; image::format(bytes), Ok(()));
+    check(rt, image::format(bytes), Ok(()));
     let mut store = ImageStore::new(bytes);
     for row in rows {
-        assert_eq!(rt; store.add(*row), Ok(()));
+        check(rt, store.add(*row), Ok(()));
     }
     let mut engine = Engine::new(store, RESERVE);
     make(rt, &mut engine, steps);

@@ -7,6 +7,7 @@ use orders::order::{Mode, Side};
 use orders::terms::{Announcement, Deal, Opening};
 use registers::row::{Figures, Kind};
 use registers::store::Store;
+use std::fmt::Debug;
 use std::process::Abort;
 
 /// The reserve that most tests have, in kopecks.
@@ -20,6 +21,12 @@ pub type Step = (Call, Result<i64, u8>);
 
 /// A place of a store, and the figures that should stand there.
 pub type Stored = (usize, Figures);
+
+/// Compares what is found with what is expected: one function, since every comparison is proved where it
+/// stands.
+pub(crate) fn check<T: Copy + PartialEq + Debug>(rt: &impl Abort, found: T, expected: T) {
+    assert_eq!(rt; found, expected);
+}
 
 /// Makes calls in their order, and compares each answer with what is expected.
 pub(crate) fn make<S: Store>(rt: &impl Abort, engine: &mut Engine<S>, steps: &[Step]) {

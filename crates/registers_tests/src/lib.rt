@@ -11,6 +11,8 @@ mod tests {
     use registers::row::{Figures, Key, Row};
     use registers::store::Store;
     use registers::table::RowStore;
+    use std::fmt::Debug;
+    use std::process::Abort;
     use std::test::Fail;
 
     const ZERO: Figures = Figures {
@@ -40,6 +42,12 @@ mod tests {
         answer.map_err(|fault| fault.number())
     }
 
+    /// Compares what is found with what is expected: one function, since every comparison is proved where it
+    /// stands.
+    fn check<T: Copy + PartialEq + Debug>(rt: &impl Abort, found: T, expected: T) {
+        assert_eq!(rt; found, expected);
+    }
+
     fn figures_at<S: Store>(store: &mut S, place: usize) -> Option<Figures> {
         store.row(place).map(|row| row.figures)
     }
@@ -51,7 +59,7 @@ mod tests {
     #[test]
     fn figures_at_the_ends_of_64_bits(rt: HostRuntime) {
         let mut bytes = [0xFF; 38];
-        assert_eq!(rt; image::format(&mut bytes), Ok(()));
+        check(&rt, image::format(&mut bytes), Ok(()));
         let mut store = ImageStore::new(&mut bytes);
         let low = Figures {
             limit: i64::MIN,
@@ -63,11 +71,11 @@ mod tests {
             blocked: i64::MIN,
             third: 1,
         };
-        assert_eq!(rt; store.add(row(255, u32::MAX, u16::MAX, low)), Ok(()));
-        assert_eq!(rt; figures_at(&mut store, 0), Some(low));
-        assert_eq!(rt; store.put(0, high), Ok(()));
-        assert_eq!(rt; figures_at(&mut store, 0), Some(high));
-        assert_eq!(rt; store.find(key(255, u32::MAX, u16::MAX)), Some(0));
+        check(&rt, store.add(row(255, u32::MAX, u16::MAX, low)), Ok(()));
+        check(&rt, figures_at(&mut store, 0), Some(low));
+        check(&rt, store.put(0, high), Ok(()));
+        check(&rt, figures_at(&mut store, 0), Some(high));
+        check(&rt, store.find(key(255, u32::MAX, u16::MAX)), Some(0));
         assert!(rt; !low.in_range());
         assert!(rt; !high.in_range());
     }
@@ -129,31 +137,31 @@ mod tests {
     fn a_row_store_without_room(rt: HostRuntime) {
         let mut table: [Row; 0] = [];
         let mut store = RowStore::new(&mut table);
-        assert_eq!(rt; store.room(), 0);
-        assert_eq!(rt; store.count(), 0);
-        assert_eq!(rt; numbered(store.add(row(1, 701, 0, ZERO))), Err(2));
-        assert_eq!(rt; numbered(store.put(0, ZERO)), Err(6));
-        assert_eq!(rt; store.find(key(1, 701, 0)), None);
+        check(&rt, store.room(), 0);
+        check(&rt, store.count(), 0);
+        check(&rt, numbered(store.add(row(1, 701, 0, ZERO))), Err(2));
+        check(&rt, numbered(store.put(0, ZERO)), Err(6));
+        check(&rt, store.find(key(1, 701, 0)), None);
     }
 
     #[test]
     fn an_image_of_room_one(rt: HostRuntime) {
         let mut bytes = [0; 68];
-        assert_eq!(rt; image::format(&mut bytes), Ok(()));
+        check(&rt, image::format(&mut bytes), Ok(()));
         let mut store = ImageStore::new(&mut bytes);
-        assert_eq!(rt; store.room(), 1);
-        assert_eq!(rt; store.add(row(2, 701, 5, ZERO)), Ok(()));
-        assert_eq!(rt; numbered(store.add(row(2, 702, 5, ZERO))), Err(2));
-        assert_eq!(rt; store.count(), 1);
+        check(&rt, store.room(), 1);
+        check(&rt, store.add(row(2, 701, 5, ZERO)), Ok(()));
+        check(&rt, numbered(store.add(row(2, 702, 5, ZERO))), Err(2));
+        check(&rt, store.count(), 1);
     }
 
     #[test]
     fn an_image_of_header_alone(rt: HostRuntime) {
         let mut bytes = [0; 7];
-        assert_eq!(rt; image::format(&mut bytes), Ok(()));
+        check(&rt, image::format(&mut bytes), Ok(()));
         let mut store = ImageStore::new(&mut bytes);
-        assert_eq!(rt; store.room(), 0);
-        assert_eq!(rt; numbered(store.add(row(1, 701, 0, ZERO))), Err(2));
+        check(&rt, store.room(), 0);
+        check(&rt, numbered(store.add(row(1, 701, 0, ZERO))), Err(2));
     }
 
     #[test]
@@ -170,21 +178,21 @@ mod tests {
             blocked: 0,
             third: 0,
         };
-        assert_eq!(rt; store.add(row(1, 700, 0, ZERO)), Ok(()));
-        assert_eq!(rt; store.add(row(1, 701, 0, first)), Ok(()));
-        assert_eq!(rt; store.add(row(1, 701, 0, second)), Ok(()));
-        assert_eq!(rt; store.find(key(1, 701, 0)), Some(1));
-        assert_eq!(rt; store.put(1, ZERO), Ok(()));
-        assert_eq!(rt; figures_at(&mut store, 1), Some(ZERO));
-        assert_eq!(rt; figures_at(&mut store, 2), Some(second));
+        check(&rt, store.add(row(1, 700, 0, ZERO)), Ok(()));
+        check(&rt, store.add(row(1, 701, 0, first)), Ok(()));
+        check(&rt, store.add(row(1, 701, 0, second)), Ok(()));
+        check(&rt, store.find(key(1, 701, 0)), Some(1));
+        check(&rt, store.put(1, ZERO), Ok(()));
+        check(&rt, figures_at(&mut store, 1), Some(ZERO));
+        check(&rt, figures_at(&mut store, 2), Some(second));
     }
 
     #[test]
     fn what_a_table_held_before_means_nothing(rt: HostRuntime) {
         let mut table = [row(1, 701, 0, ZERO); 2];
         let mut store = RowStore::new(&mut table);
-        assert_eq!(rt; store.find(key(1, 701, 0)), None);
-        assert_eq!(rt; store.row(0), None);
+        check(&rt, store.find(key(1, 701, 0)), None);
+        check(&rt, store.row(0), None);
     }
 
     #[test]
@@ -192,19 +200,19 @@ mod tests {
         let heap = rt.alloc();
         let mut table = vec![in heap; row(0, 0, 0, ZERO); 4097]?;
         let mut rows = RowStore::new(&mut table);
-        assert_eq!(rt; rows.room(), 4096);
+        check(&rt, rows.room(), 4096);
         let mut bytes = vec![in heap; 0u8; 126_983]?;
-        assert_eq!(rt; image::format(&mut bytes), Ok(()));
+        check(&rt, image::format(&mut bytes), Ok(()));
         let mut whole = ImageStore::new(&mut bytes);
-        assert_eq!(rt; whole.room(), 4096);
+        check(&rt, whole.room(), 4096);
         let mut short = vec![in heap; 0u8; 126_982]?;
-        assert_eq!(rt; image::format(&mut short), Ok(()));
+        check(&rt, image::format(&mut short), Ok(()));
         let mut less = ImageStore::new(&mut short);
-        assert_eq!(rt; less.room(), 4095);
+        check(&rt, less.room(), 4095);
         let mut long = vec![in heap; 0u8; 200_000]?;
-        assert_eq!(rt; image::format(&mut long), Ok(()));
+        check(&rt, image::format(&mut long), Ok(()));
         let mut more = ImageStore::new(&mut long);
-        assert_eq!(rt; more.room(), 4096);
+        check(&rt, more.room(), 4096);
         Ok(())
     }
 
@@ -212,15 +220,15 @@ mod tests {
     fn a_count_of_65535(rt: HostRuntime) -> Result<(), Fail> {
         let heap = rt.alloc();
         let mut bytes = vec![in heap; 0u8; 126_983]?;
-        assert_eq!(rt; image::format(&mut bytes), Ok(()));
+        check(&rt, image::format(&mut bytes), Ok(()));
         assert!(rt; bytes.len() > 6);
         bytes[5] = 0xFF;
         bytes[6] = 0xFF;
         let mut store = ImageStore::new(&mut bytes);
-        assert_eq!(rt; store.count(), 4096);
-        assert_eq!(rt; numbered(store.add(row(1, 701, 0, ZERO))), Err(2));
-        assert_eq!(rt; store.put(4095, ZERO), Ok(()));
-        assert_eq!(rt; numbered(store.put(4096, ZERO)), Err(6));
+        check(&rt, store.count(), 4096);
+        check(&rt, numbered(store.add(row(1, 701, 0, ZERO))), Err(2));
+        check(&rt, store.put(4095, ZERO), Ok(()));
+        check(&rt, numbered(store.put(4096, ZERO)), Err(6));
         Ok(())
     }
 
@@ -231,20 +239,20 @@ mod tests {
         let mut store = RowStore::new(&mut table);
         // the codes themselves are gone through
         for code in 0..4096 {
-            assert_eq!(rt; store.add(row(1, code, 0, ZERO)), Ok(()));
+            check(&rt, store.add(row(1, code, 0, ZERO)), Ok(()));
         }
-        assert_eq!(rt; store.count(), 4096);
-        assert_eq!(rt; numbered(store.add(row(1, 9999, 0, ZERO))), Err(2));
-        assert_eq!(rt; store.find(key(1, 4095, 0)), Some(4095));
+        check(&rt, store.count(), 4096);
+        check(&rt, numbered(store.add(row(1, 9999, 0, ZERO))), Err(2));
+        check(&rt, store.find(key(1, 4095, 0)), Some(4095));
         Ok(())
     }
 
     #[test]
     fn the_greatest_and_the_least_price(rt: HostRuntime) {
-        assert_eq!(rt; cost(1, 1), Some(0));
-        assert_eq!(rt; cost(1, 100_000_000), Some(1_000_000));
-        assert_eq!(rt; cost(1_000_001, 1), None);
-        assert_eq!(rt; Price::new(0), None);
-        assert_eq!(rt; Price::new(100_000_001), None);
+        check(&rt, cost(1, 1), Some(0));
+        check(&rt, cost(1, 100_000_000), Some(1_000_000));
+        check(&rt, cost(1_000_001, 1), None);
+        check(&rt, Price::new(0), None);
+        check(&rt, Price::new(100_000_001), None);
     }
 }
