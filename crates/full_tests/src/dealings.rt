@@ -1,9 +1,9 @@
 //! Whole dealings: what covers an order, what trades leave, and the same day over both stores.
 
-use crate::market::{check_finished, finish, prepare};
+use crate::market::{finished, finishing, prepared};
 use crate::support::{
-    RESERVE, SECURITY, admit, buy, cash, check, check_rows, credit, figures, holding, make,
-    open_registers, order, sell, trade, withdraw,
+    RESERVE, SECURITY, admit, buy, cash, check, check_over_table, check_rows, credit, figures,
+    holding, make, opened, order, sell, trade, withdraw,
 };
 use full::engine::Engine;
 use full_runs::call::Call;
@@ -41,9 +41,6 @@ fn a_purchase_leaves_the_reserve(rt: HostRuntime) {
 
 #[test]
 fn announcements_that_are_refused(rt: HostRuntime) {
-    let mut table = [BLANK; 6];
-    let mut engine = Engine::new(RowStore::new(&mut table), RESERVE);
-    open_registers(&rt, &mut engine, 201, 10);
     let good = order(Side::Sell, 1, 802, 1, 50);
     let partial = Announcement {
         mode: Mode::Partial as u8,
@@ -65,21 +62,19 @@ fn announcements_that_are_refused(rt: HostRuntime) {
         (sell(1, 802, 11, 50), Err(10)),
         (sell(1, 802, 10, 50), Ok(10)),
     ];
-    make(&rt, &mut engine, &steps);
-    let mut store = engine.into_store();
     let rows = [
         (0, figures(201, 0, 0)),
         (3, figures(10, 10, 0)),
         (5, figures(10, 0, 0)),
     ];
-    check_rows(&rt, &mut store, &rows);
+    check_over_table(&rt, &mut [BLANK; 6], &opened(201, 10), &steps, &rows);
 }
 
 #[test]
 fn a_blocked_figure_falls_below_zero(rt: HostRuntime) {
     let mut table = [BLANK; 4];
     let mut engine = Engine::new(RowStore::new(&mut table), RESERVE);
-    open_registers(&rt, &mut engine, 201, 10);
+    make(&rt, &mut engine, &opened(201, 10));
     let orders = [(buy(1, 701, 2, 50), Ok(1)), (sell(2, 802, 2, 50), Ok(2))];
     make(&rt, &mut engine, &orders);
     check_rows(&rt, &mut engine.store, &[(0, figures(201, 1, 0))]);
@@ -104,30 +99,25 @@ fn a_blocked_figure_falls_below_zero(rt: HostRuntime) {
 
 #[test]
 fn a_block_is_released_at_its_own_price(rt: HostRuntime) {
-    let mut table = [BLANK; 4];
-    let mut engine = Engine::new(RowStore::new(&mut table), RESERVE);
-    open_registers(&rt, &mut engine, 10_200, 100);
     let steps = [
         (buy(1, 701, 100, 10_000), Ok(10_000)),
         (sell(2, 802, 100, 9_900), Ok(100)),
         (trade(1, 100, 9_900), Ok(9_900)),
     ];
-    make(&rt, &mut engine, &steps);
-    let mut store = engine.into_store();
     let rows = [
         (0, figures(300, 0, 0)),
         (1, figures(100, 0, 0)),
         (2, figures(9_900, 0, 0)),
         (3, figures(0, 0, 0)),
     ];
-    check_rows(&rt, &mut store, &rows);
+    check_over_table(&rt, &mut [BLANK; 4], &opened(10_200, 100), &steps, &rows);
 }
 
 /// Deals for a whole day over a store, and hands the store out.
 fn whole_day<S: Store>(rt: &impl Abort, store: S) -> S {
     let mut engine = Engine::new(store, RESERVE);
-    prepare(rt, &mut engine);
-    finish(rt, &mut engine);
+    make(rt, &mut engine, &prepared());
+    make(rt, &mut engine, &finishing());
     engine.into_store()
 }
 
@@ -138,8 +128,9 @@ fn the_same_day_over_both_stores(rt: HostRuntime) {
     let mut bytes = [0; 162];
     check(&rt, image::format(&mut bytes), Ok(()));
     let mut image = whole_day(&rt, ImageStore::new(&mut bytes));
-    check_finished(&rt, &mut rows);
-    check_finished(&rt, &mut image);
+    check(&rt, (rows.count(), image.count()), (5, 5));
+    check_rows(&rt, &mut rows, &finished());
+    check_rows(&rt, &mut image, &finished());
     // a store is asked through `&mut`, place by place
     for place in 0..rows.count() {
         check(&rt, rows.row(place), image.row(place));
@@ -152,7 +143,7 @@ fn an_image_outlives_its_engine(rt: HostRuntime) {
     let mut bytes = [0; 162];
     check(&rt, image::format(&mut bytes), Ok(()));
     let mut engine = Engine::new(ImageStore::new(&mut bytes), RESERVE);
-    prepare(&rt, &mut engine);
+    make(&rt, &mut engine, &prepared());
     let mut engine = Engine::new(engine.into_store(), RESERVE);
     let steps = [
         (withdraw(1), Err(11)),

@@ -1,14 +1,11 @@
 //! A market to trade in: a buyer, a seller, five orders and one trade.
 
 use crate::support::{
-    SECURITY, admit, buy, cash, check, check_rows, figures, holding, make, order, sell, withdraw,
+    SECURITY, Step, Stored, admit, buy, cash, figures, holding, order, sell, withdraw,
 };
-use full::engine::Engine;
 use full_runs::call::Call;
 use orders::order::Side;
 use orders::terms::{Announcement, Deal};
-use registers::store::Store;
-use std::process::Abort;
 
 /// The buyer's account.
 pub const BUYER: u32 = 701;
@@ -28,8 +25,8 @@ pub const GOOD: Deal = Deal {
     price: 9_900,
 };
 
-/// Opens five registers, announces five orders, and trades 1 of the buyer's 100 under number 7.
-pub(crate) fn prepare<S: Store>(rt: &impl Abort, engine: &mut Engine<S>) {
+/// Five registers, five orders, and a trade of 1 of the buyer's 100 under number 7.
+pub(crate) fn prepared() -> [Step; 13] {
     let other = Announcement {
         security: OTHER,
         ..order(Side::Sell, 3, SELLER, 1, 9_800)
@@ -39,7 +36,7 @@ pub(crate) fn prepare<S: Store>(rt: &impl Abort, engine: &mut Engine<S>) {
         quantity: 1,
         ..GOOD
     };
-    let steps = [
+    [
         (admit(SECURITY, 1_000), Ok(1)),
         (admit(OTHER, 1_000), Ok(2)),
         (cash(BUYER, 10_200), Ok(1)),
@@ -53,29 +50,25 @@ pub(crate) fn prepare<S: Store>(rt: &impl Abort, engine: &mut Engine<S>) {
         (sell(4, BUYER, 10, 9_800), Ok(10)),
         (sell(5, SELLER, 60, 9_800), Ok(60)),
         (Call::Trade(first), Ok(99)),
-    ];
-    make(rt, engine, &steps);
+    ]
 }
 
-/// Makes the good deal, which ends the buyer's order and leaves 50 of the seller's 150 to withdraw.
-pub(crate) fn finish<S: Store>(rt: &impl Abort, engine: &mut Engine<S>) {
-    let steps = [
+/// The good deal, which ends the buyer's order and leaves 50 of the seller's 150 to withdraw.
+pub(crate) fn finishing() -> [Step; 3] {
+    [
         (Call::Trade(GOOD), Ok(9_801)),
         (withdraw(1), Err(11)),
         (withdraw(2), Ok(50)),
-    ];
-    make(rt, engine, &steps);
+    ]
 }
 
-/// Checks every row as the market leaves it once it is finished.
-pub(crate) fn check_finished<S: Store>(rt: &impl Abort, store: &mut S) {
-    check(rt, store.count(), 5);
-    let rows = [
+/// Every row as the market leaves it once it is finished.
+pub(crate) fn finished() -> [Stored; 5] {
+    [
         (0, figures(300, 0, 0)),
         (1, figures(9_900, 0, 0)),
         (2, figures(110, 10, 0)),
         (3, figures(200, 60, 0)),
         (4, figures(1, 1, 0)),
-    ];
-    check_rows(rt, store, &rows);
+    ]
 }

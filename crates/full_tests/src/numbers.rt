@@ -1,11 +1,9 @@
 //! The numbers of orders and trades, from 1 to 4,294,967,295.
 
 use crate::support::{
-    RESERVE, SECURITY, Step, admit, buy, cash, holding, make, sell, trade, withdraw,
+    SECURITY, Step, admit, buy, cash, check_over_table, holding, sell, trade, withdraw,
 };
-use full::engine::Engine;
 use registers::row::BLANK;
-use registers::table::RowStore;
 
 /// The security, and cash and a holding for a buyer (701) and a seller (802), the cash of both first.
 fn beginning() -> [Step; 5] {
@@ -20,9 +18,6 @@ fn beginning() -> [Step; 5] {
 
 #[test]
 fn the_first_and_the_last_order_number(rt: HostRuntime) {
-    let mut table = [BLANK; 4];
-    let mut engine = Engine::new(RowStore::new(&mut table), RESERVE);
-    make(&rt, &mut engine, &beginning());
     let steps = [
         (sell(0, 802, 1, 50), Err(5)),
         (sell(9, 802, 101, 50), Err(10)),
@@ -36,14 +31,11 @@ fn the_first_and_the_last_order_number(rt: HostRuntime) {
         (sell(0, 802, 1, 50), Err(5)),
         (withdraw(4_294_967_295), Ok(2)),
     ];
-    make(&rt, &mut engine, &steps);
+    check_over_table(&rt, &mut [BLANK; 4], &beginning(), &steps, &[]);
 }
 
 #[test]
 fn the_first_and_the_last_trade_number(rt: HostRuntime) {
-    let mut table = [BLANK; 4];
-    let mut engine = Engine::new(RowStore::new(&mut table), RESERVE);
-    make(&rt, &mut engine, &beginning());
     let steps = [
         (buy(1, 701, 10, 100), Ok(10)),
         (sell(2, 802, 10, 100), Ok(10)),
@@ -56,5 +48,5 @@ fn the_first_and_the_last_trade_number(rt: HostRuntime) {
         (trade(4_294_967_294, 1, 100), Err(12)),
         (trade(0, 1, 100), Err(5)),
     ];
-    make(&rt, &mut engine, &steps);
+    check_over_table(&rt, &mut [BLANK; 4], &beginning(), &steps, &[]);
 }

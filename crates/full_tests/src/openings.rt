@@ -1,19 +1,12 @@
 //! Openings: a full store, and what is refused.
 
-use crate::support::{
-    RESERVE, SECURITY, admit, cash, check, check_rows, credit, figures, holding, make, opening,
-};
-use full::engine::Engine;
+use crate::support::{SECURITY, admit, cash, check_over_table, credit, figures, holding, opening};
 use full_runs::call::Call;
 use orders::terms::Opening;
 use registers::row::{BLANK, Kind};
-use registers::store::Store;
-use registers::table::RowStore;
 
 #[test]
 fn a_store_with_room_for_one(rt: HostRuntime) {
-    let mut table = [BLANK; 1];
-    let mut engine = Engine::new(RowStore::new(&mut table), RESERVE);
     let steps = [
         (cash(701, 201), Ok(1)),
         (cash(702, 0), Err(2)),
@@ -23,22 +16,18 @@ fn a_store_with_room_for_one(rt: HostRuntime) {
         (holding(701, SECURITY, 0), Err(2)),
         (credit(702, 0, 1), Err(6)),
     ];
-    make(&rt, &mut engine, &steps);
-    let mut store = engine.into_store();
-    check(&rt, store.count(), 1);
-    check_rows(&rt, &mut store, &[(0, figures(201, 0, 0))]);
+    let rows = [(0, figures(201, 0, 0))];
+    check_over_table(&rt, &mut [BLANK; 1], &[], &steps, &rows);
 }
 
 #[test]
 fn openings_at_the_ends_of_their_ranges(rt: HostRuntime) {
-    let mut table = [BLANK; 3];
-    let mut engine = Engine::new(RowStore::new(&mut table), RESERVE);
     let good = opening(Kind::Cash, 701, 0, 0);
     let secured = Opening {
         security: SECURITY,
         ..good
     };
-    let outside = [
+    let steps = [
         (Call::Open(Opening { kind: 0, ..good }), Err(5)),
         (
             Call::Open(Opening {
@@ -54,20 +43,15 @@ fn openings_at_the_ends_of_their_ranges(rt: HostRuntime) {
         (cash(99, 0), Err(5)),
         (cash(1_000_000, 0), Err(5)),
         (cash(701, 100_000_000_000_001), Err(5)),
-    ];
-    make(&rt, &mut engine, &outside);
-    let inside = [
         (admit(9_999, 1_000), Ok(1)),
         (cash(100, 0), Ok(1)),
         (cash(999_999, 100_000_000_000_000), Ok(2)),
         (holding(100, 9_999, 1), Ok(3)),
         (holding(100, 9_998, 1), Err(7)),
     ];
-    make(&rt, &mut engine, &inside);
-    let mut store = engine.into_store();
     let rows = [
         (1, figures(100_000_000_000_000, 0, 0)),
         (2, figures(1, 0, 0)),
     ];
-    check_rows(&rt, &mut store, &rows);
+    check_over_table(&rt, &mut [BLANK; 3], &[], &steps, &rows);
 }

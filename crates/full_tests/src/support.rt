@@ -5,8 +5,9 @@ use full_runs::call::Call;
 use full_runs::runs::carry_out;
 use orders::order::{Mode, Side};
 use orders::terms::{Announcement, Deal, Opening};
-use registers::row::{Figures, Kind};
+use registers::row::{Figures, Kind, Row};
 use registers::store::Store;
+use registers::table::RowStore;
 use std::fmt::Debug;
 use std::process::Abort;
 
@@ -129,20 +130,32 @@ pub(crate) fn trade(number: u32, quantity: u32, price: u32) -> Call {
     })
 }
 
-/// Opens cash and a holding for a buyer (701), who has the money, and a seller (802), who has the
-/// pieces.
-pub(crate) fn open_registers<S: Store>(
-    rt: &impl Abort,
-    engine: &mut Engine<S>,
-    money: u64,
-    pieces: u64,
-) {
-    let steps = [
+/// The security, and cash and a holding for a buyer (701), who has the money, and a seller (802), who
+/// has the pieces.
+pub(crate) fn opened(money: u64, pieces: u64) -> [Step; 5] {
+    [
         (admit(SECURITY, 1_000), Ok(1)),
         (cash(701, money), Ok(1)),
         (holding(701, SECURITY, 0), Ok(2)),
         (cash(802, 0), Ok(3)),
         (holding(802, SECURITY, pieces), Ok(4)),
-    ];
-    make(rt, engine, &steps);
+    ]
+}
+
+/// Makes calls over an empty table, first those that open what the others need, and compares the figures
+/// that they leave with what is expected. The calls open as many registers as the table has places.
+pub(crate) fn check_over_table(
+    rt: &impl Abort,
+    table: &mut [Row],
+    opened: &[Step],
+    steps: &[Step],
+    left: &[Stored],
+) {
+    let room = table.len();
+    let mut engine = Engine::new(RowStore::new(table), RESERVE);
+    make(rt, &mut engine, opened);
+    make(rt, &mut engine, steps);
+    let mut store = engine.into_store();
+    check(rt, store.count(), room);
+    check_rows(rt, &mut store, left);
 }

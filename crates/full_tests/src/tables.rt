@@ -1,7 +1,8 @@
 //! Tables that are full: 64 securities and 256 live orders.
 
 use crate::support::{
-    RESERVE, SECURITY, admit, cash, check_rows, figures, holding, make, sell, withdraw,
+    RESERVE, SECURITY, admit, cash, check_over_table, check_rows, figures, holding, make, sell,
+    withdraw,
 };
 use full::engine::Engine;
 use registers::row::BLANK;
@@ -30,8 +31,6 @@ fn the_65th_security_is_refused(rt: HostRuntime) {
 
 #[test]
 fn securities_and_ratios_at_the_ends_of_their_ranges(rt: HostRuntime) {
-    let mut table = [BLANK; 1];
-    let mut engine = Engine::new(RowStore::new(&mut table), RESERVE);
     let steps = [
         (admit(1, 0), Err(5)),
         (admit(1, 10_001), Err(5)),
@@ -42,7 +41,7 @@ fn securities_and_ratios_at_the_ends_of_their_ranges(rt: HostRuntime) {
         (admit(1, 0), Err(5)),
         (admit(1, 2), Err(3)),
     ];
-    make(&rt, &mut engine, &steps);
+    check_over_table(&rt, &mut [], &[], &steps, &[]);
 }
 
 #[test]

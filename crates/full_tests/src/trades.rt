@@ -1,24 +1,18 @@
 //! The refusals of a trade, in the order of their checks. After each the market goes on as if nothing
 //! had been tried.
 
-use crate::market::{GOOD, check_finished, finish, prepare};
-use crate::support::{RESERVE, make};
-use full::engine::Engine;
+use crate::market::{GOOD, finished, finishing, prepared};
+use crate::support::check_over_table;
 use full_runs::call::Call;
 use orders::terms::Deal;
 use registers::row::BLANK;
-use registers::table::RowStore;
 use std::process::Abort;
 
 /// Checks that the market refuses a deal with a number, and then finishes as it would have done.
 fn check_refused(rt: &impl Abort, deal: Deal, number: u8) {
-    let mut table = [BLANK; 5];
-    let mut engine = Engine::new(RowStore::new(&mut table), RESERVE);
-    prepare(rt, &mut engine);
-    make(rt, &mut engine, &[(Call::Trade(deal), Err(number))]);
-    finish(rt, &mut engine);
-    let mut store = engine.into_store();
-    check_finished(rt, &mut store);
+    let [good, ended, withdrawn] = finishing();
+    let steps = [(Call::Trade(deal), Err(number)), good, ended, withdrawn];
+    check_over_table(rt, &mut [BLANK; 5], &prepared(), &steps, &finished());
 }
 
 #[test]
