@@ -6,7 +6,7 @@ ghost use Rattle.day_records.specs.Kinds.{shape_of, letter_of, kind_of, body_of}
 use crate::kind::{Kind, Shape};
 use crate::record::Record;
 
-// letters are the cases that choose: a form that the project fixes
+// char literals are the cases that choose kind and length, in one match (docs/DECISIONS.md, 52)
 
 /// The kind and the length of the record that begins with a letter, or `None` where none does.
 pub fn shape(letter: u8) -> Option<Shape>

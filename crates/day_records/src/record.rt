@@ -1,7 +1,7 @@
 //! Records as parts of the file.
 
 /// A record of a day file: its kind, and its fields as the bytes of the file in which they stand.
-// each kind is a case that borrows its bytes: a form that the project fixes
+// each kind is a case that borrows its bytes of the file: nothing is copied (docs/DECISIONS.md, 51)
 #[derive(Clone, Copy, PartialEq, Eq, Debug)]
 pub enum Record<'a> {
     /// A: security 2, ratio 2.

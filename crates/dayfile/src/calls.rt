@@ -89,7 +89,7 @@ fn trade(body: &[u8]) -> Option<Call>
 pub fn call(record: Record<'_>) -> Result<Call, LineRefusal>
     ensures { result ≡ call_for (kind_of «record».entry) (body_of «record».entry) }
 {
-    // case by case: a record is a case that borrows its bytes, a form that the project fixes
+    // case by case, since each kind of record is a case of its own (docs/DECISIONS.md, 51)
     let call = match record {
         Record::Admit(body) => admission(body),
         Record::Open(body) => opening(body),
