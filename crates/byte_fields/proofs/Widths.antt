@@ -1,7 +1,7 @@
 -- Fields of every width: what a write leaves to be read.
-use Rattle.std.proofs.Common.{◌≡◌, ℕ, zero, suc, ◌+◌, ◌-◌, ◌*◌, ◌/◌, ◌%◌, ◌^◌, ◌<◌, ◌≤◌, Bool, true, false, cond, leb, ◌⊎◌, List, [], ◌∷◌, ◌++◌, length, get_or, take, drop, Some, None, sym, refl, ap, ◌∙◌, subst, inl, inr, pow-suc, arith, length-append, length-drop, length-take, le-leb, leb-true}
+use Rattle.std.proofs.Common.{◌≡◌, ℕ, zero, suc, ◌+◌, ◌-◌, ◌*◌, ◌/◌, ◌%◌, ◌^◌, ◌<◌, ◌≤◌, Bool, true, false, if◌then◌else◌, leb, ◌⊎◌, List, [], ◌∷◌, ◌++◌, length, get_or, take, drop, Some, None, sym, refl, ap, ◌∙◌, subst, inl, inr, pow-suc, arith, length-append, length-drop, length-take, le-leb, leb-true}
 use native.Mathlib.Nat.{div-div-eq-div-mul}
-use Rattle.std.proofs.lemmas.List.{take_all, drop_all, drop_at, drop-take, drop-drop, drop-append-le, take-append-le, take-append-drop, length-take-le, take_more, append_assoc}
+use Rattle.std.proofs.lemmas.List.{take_all, take_at, drop_all, drop_at, drop-take, drop-drop, drop-append-le, take-append-le, take-append-drop, length-take-le, take_more, append_assoc}
 use Rattle.std.proofs.ByRecursion.{All-get_or, All-take, All-drop}
 use Rattle.std.proofs.lemmas.Slice.{take-put_mid, take-put_mid_below, drop-put_mid, between-put_mid}
 use Rattle.std.proofs.lemmas.Int.Digits.{number_push}
@@ -38,6 +38,15 @@ bytes_of-be (suc k) xs l u =
     ∙ ap (λ (ys : List ℕ). ys ++ be xs % 256 ∷ []) front
     ∙ ap (λ (m : ℕ). take k xs ++ m ∷ []) r
     ∙ sym whole
+
+-- bytes that begin with those of a number: the number is the field in front
+pub be-part-bytes_of : (k n : ℕ) (rest : List ℕ) → n < 256 ^ k → be (part k 0 (bytes_of k n ++ rest)) ≡ n
+be-part-bytes_of k n rest h = ap be (take_at (bytes_of k n) rest k (length-bytes_of k n)) ∙ be-bytes_of k n h
+
+-- a field behind it is that field of what follows the number
+pub be-part-behind : (j k i n : ℕ) (rest : List ℕ) → be (part j (k + i) (bytes_of k n ++ rest)) ≡ be (part j i rest)
+be-part-behind j k i n rest =
+    ap (λ (ys : List ℕ). be (take j ys)) (sym (drop-drop i k (bytes_of k n ++ rest)) ∙ ap (drop i) (drop_at (bytes_of k n) rest k (length-bytes_of k n)))
 
 -- the last k of m bytes are the k lowest
 pub drop-bytes_of : (k j m n : ℕ) → m ≡ j + k → drop j (bytes_of m n) ≡ bytes_of k n
@@ -103,7 +112,7 @@ written_behind k j at ys zs s t is len fits =
 pub length-put_at : (k at n : ℕ) (s : List ℕ) → length (put_at k at n s) ≡ length s
 length-put_at k at n s = by (leb (k + at) (length s)) refl
   where
-    by : (b : Bool) → leb (k + at) (length s) ≡ b → length (cond b (spliced k at (bytes_of k n) s) s) ≡ length s
+    by : (b : Bool) → leb (k + at) (length s) ≡ b → length (if b then spliced k at (bytes_of k n) s else s) ≡ length s
     by true e = length-spliced k at (bytes_of k n) s (leb-true _ _ e) (length-bytes_of k n)
     by false e = refl
 
@@ -113,7 +122,7 @@ read_back k at n s h w =
     let l : length (put_at k at n s) ≡ length s = length-put_at k at n s in
     let t : within k at (put_at k at n s) ≡ true = le-leb _ _ (omega arith) in
     let p : part k at (put_at k at n s) ≡ bytes_of k n = ap (part k at) (written_within k at (bytes_of k n) s f) ∙ part_same k at (bytes_of k n) s f (length-bytes_of k n) in
-    ap (λ (b : Bool). cond b (Some (be (part k at (put_at k at n s)))) None) t ∙ ap (λ (ys : List ℕ). Some (be ys)) p ∙ ap Some (be-bytes_of k n h)
+    ap (λ (b : Bool). if b then Some (be (part k at (put_at k at n s))) else None) t ∙ ap (λ (ys : List ℕ). Some (be ys)) p ∙ ap Some (be-bytes_of k n h)
 
 pub rewritten : Rewritten
 rewritten k at s u w =

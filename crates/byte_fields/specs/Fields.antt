@@ -1,5 +1,5 @@
 -- Numbers in bytes, the first byte the most.
-use Rattle.std.specs.Prelude.{◌≡◌, ℕ, zero, suc, ◌+◌, ◌/◌, ◌%◌, ◌^◌, ◌<◌, Bool, true, cond, List, [], ◌∷◌, ◌++◌, length, take, drop, ℤ, Some, None, Option, nat_le}
+use Rattle.std.specs.Prelude.{◌≡◌, ℕ, zero, suc, ◌+◌, ◌/◌, ◌%◌, ◌^◌, ◌<◌, Bool, true, if◌then◌else◌, List, [], ◌∷◌, ◌++◌, length, take, drop, ℤ, Some, None, Option, ◌==◌, nat_le}
 use Rattle.std.specs.Int.{w64, cast_signed, cast_unsigned}
 use Rattle.std.specs.Int.Digits.{number_from_digits, AllBelowBase}
 
@@ -27,16 +27,25 @@ signed_be bs = cast_signed w64 (be bs)
 abbrev pub signed_bytes_of : ℤ → List ℕ
 signed_bytes_of z = bytes_of 8 (cast_unsigned w64 z)
 
+-- whether bytes are as many as a field of k bytes has
+abbrev pub fills : ℕ → List ℕ → Bool
+fills k s = length s == k
+
+-- what the bytes of a field of k bytes mean, by a meaning of bytes; more or fewer of them mean nothing
+abbrev pub meant_by : {X : Type 0} → (List ℕ → X) → ℕ → List ℕ → Option X
+meant_by f k s = if fills k s then Some (f s) else None
+
+-- the bytes of a field of k bytes after others are written over them; where they are more or fewer, they stay
+abbrev pub written_over : ℕ → List ℕ → List ℕ → List ℕ
+written_over k ys s = if fills k s then ys else s
+
 -- what the bytes of a field of k bytes at a place mean, by a meaning of bytes
 abbrev pub meant_at : {X : Type 0} → (List ℕ → X) → ℕ → ℕ → List ℕ → Option X
-meant_at f k at s = cond (within k at s) (Some (f (part k at s))) None
+meant_at f k at s = if within k at s then Some (f (part k at s)) else None
 
--- the number in a field of k bytes at a place, and the same as a signed one of 64 bits
+-- the number in a field of k bytes at a place
 abbrev pub read_at : ℕ → ℕ → List ℕ → Option ℕ
 read_at k at s = meant_at be k at s
-
-abbrev pub signed_at : ℕ → List ℕ → Option ℤ
-signed_at at s = meant_at signed_be 8 at s
 
 -- bytes with others in the place of the k from a place on; every other byte stays
 abbrev pub spliced : ℕ → ℕ → List ℕ → List ℕ → List ℕ
@@ -44,7 +53,7 @@ spliced k at ys s = take at s ++ (ys ++ drop k (drop at s))
 
 -- all bytes after others are written into a field of k bytes at a place, and after a number is
 abbrev pub written_at : ℕ → ℕ → List ℕ → List ℕ → List ℕ
-written_at k at ys s = cond (within k at s) (spliced k at ys s) s
+written_at k at ys s = if within k at s then spliced k at ys s else s
 
 abbrev pub put_at : ℕ → ℕ → ℕ → List ℕ → List ℕ
 put_at k at n s = written_at k at (bytes_of k n) s

@@ -1,11 +1,12 @@
 //! Big-endian number fields in byte slices: unsigned of 1, 2, 4 and 8 bytes, and signed of 8.
 //!
 //! A field is named by the place of its first byte. Where it does not lie within the slice, reading
-//! answers `None`, and writing refuses and leaves every byte as it stood.
+//! answers `None`, and writing refuses and leaves every byte as it stood. The same holds of a field's
+//! own bytes where they are more or fewer than its width.
 #![tactic(auto)]
 
-ghost use Rattle.std.specs.Prelude.{◌≡◌, ℕ, ◌+◌, ◌*◌, ◌^◌, ◌<◌, ◌≤◌, List, length, is_ok, nat_le};
-ghost use Rattle.byte_fields.specs.Fields.{be, bytes_of, signed_be, signed_bytes_of, within, meant_at, written_at, ReadBack, Rewritten};
+ghost use Rattle.std.specs.Prelude.{◌≡◌, ℕ, ◌+◌, ◌*◌, ◌^◌, ◌<◌, ◌≤◌, List, length, is_ok, IfSome, nat_le};
+ghost use Rattle.byte_fields.specs.Fields.{be, bytes_of, signed_be, signed_bytes_of, fills, meant_by, written_over, within, meant_at, written_at, ReadBack, Rewritten};
 
 /// A number that stands in a field of a fixed width, the first byte the most.
 pub trait Field: Copy {
@@ -21,18 +22,19 @@ pub trait Field: Copy {
     /// The bytes that write a number.
     ghost spelled: { Self → List ℕ };
 
-    /// The number that the bytes of a field write.
-    fn from_bytes(field: &[u8]) -> Self
-        requires { length field.now ≡ WIDTH }
-        ensures { result ≡ meant field.now };
+    /// The number that the bytes of a field write, or `None` where there are more or fewer of them than
+    /// the field has.
+    fn from_bytes(field: &[u8]) -> Option<Self>
+        ensures { result ≡ meant_by meant WIDTH field.now };
 
-    /// Writes the number into the bytes of a field.
-    fn write_to(self, field: &mut [u8])
-        requires { length field.old ≡ WIDTH }
-        ensures { field.new ≡ spelled self };
+    /// Writes the number into the bytes of a field. Refuses more or fewer bytes than the field has; every
+    /// byte is then as it stood.
+    fn write_to(self, field: &mut [u8]) -> Result<(), Outside>
+        ensures answer { is_ok result ≡ fills WIDTH field.old }
+        ensures after { field.new ≡ written_over WIDTH (spelled self) field.old };
 }
 
-/// A field does not lie within the bytes.
+/// The bytes are not those of a field: it does not lie within them, or they are more or fewer than it has.
 #[derive(Clone, Copy, PartialEq, Eq, Debug)]
 pub struct Outside;
 
@@ -43,7 +45,7 @@ pub fn read<T: Field>(bytes: &[u8], at: usize) -> Option<T>
     if !lies_within(bytes.len(), at, T::WIDTH) {
         return None;
     }
-    Some(T::from_bytes(&bytes[at..at + T::WIDTH]))
+    T::from_bytes(&bytes[at..at + T::WIDTH])
 }
 
 /// Writes `value` into the field from `at` on. Refuses a field that does not lie within; every byte
@@ -55,8 +57,7 @@ pub fn write<T: Field>(bytes: &mut [u8], at: usize, value: T) -> Result<(), Outs
     if !lies_within(bytes.len(), at, T::WIDTH) {
         return Err(Outside);
     }
-    value.write_to(&mut bytes[at..at + T::WIDTH]);
-    Ok(())
+    value.write_to(&mut bytes[at..at + T::WIDTH])
 }
 
 /// At every width and every place: a number that was written reads back as itself, and a field that
@@ -77,12 +78,12 @@ impl Field for u8 {
 
     ghost spelled = { bytes_of 1 };
 
-    fn from_bytes(field: &[u8]) -> u8 {
-        unsigned(field) as u8
+    fn from_bytes(field: &[u8]) -> Option<u8> {
+        Some(whole(field, Self::WIDTH)? as u8)
     }
 
-    fn write_to(self, field: &mut [u8]) {
-        put_unsigned(field, u64::from(self));
+    fn write_to(self, field: &mut [u8]) -> Result<(), Outside> {
+        put_whole(field, Self::WIDTH, u64::from(self))
     }
 }
 
@@ -95,12 +96,12 @@ impl Field for u16 {
 
     ghost spelled = { bytes_of 2 };
 
-    fn from_bytes(field: &[u8]) -> u16 {
-        unsigned(field) as u16
+    fn from_bytes(field: &[u8]) -> Option<u16> {
+        Some(whole(field, Self::WIDTH)? as u16)
     }
 
-    fn write_to(self, field: &mut [u8]) {
-        put_unsigned(field, u64::from(self));
+    fn write_to(self, field: &mut [u8]) -> Result<(), Outside> {
+        put_whole(field, Self::WIDTH, u64::from(self))
     }
 }
 
@@ -113,12 +114,12 @@ impl Field for u32 {
 
     ghost spelled = { bytes_of 4 };
 
-    fn from_bytes(field: &[u8]) -> u32 {
-        unsigned(field) as u32
+    fn from_bytes(field: &[u8]) -> Option<u32> {
+        Some(whole(field, Self::WIDTH)? as u32)
     }
 
-    fn write_to(self, field: &mut [u8]) {
-        put_unsigned(field, u64::from(self));
+    fn write_to(self, field: &mut [u8]) -> Result<(), Outside> {
+        put_whole(field, Self::WIDTH, u64::from(self))
     }
 }
 
@@ -131,12 +132,12 @@ impl Field for u64 {
 
     ghost spelled = { bytes_of 8 };
 
-    fn from_bytes(field: &[u8]) -> u64 {
-        unsigned(field)
+    fn from_bytes(field: &[u8]) -> Option<u64> {
+        whole(field, Self::WIDTH)
     }
 
-    fn write_to(self, field: &mut [u8]) {
-        put_unsigned(field, self);
+    fn write_to(self, field: &mut [u8]) -> Result<(), Outside> {
+        put_whole(field, Self::WIDTH, self)
     }
 }
 
@@ -149,12 +150,12 @@ impl Field for i64 {
 
     ghost spelled = { signed_bytes_of };
 
-    fn from_bytes(field: &[u8]) -> i64 {
-        unsigned(field).cast_signed()
+    fn from_bytes(field: &[u8]) -> Option<i64> {
+        Some(whole(field, Self::WIDTH)?.cast_signed())
     }
 
-    fn write_to(self, field: &mut [u8]) {
-        put_unsigned(field, self.cast_unsigned());
+    fn write_to(self, field: &mut [u8]) -> Result<(), Outside> {
+        put_whole(field, Self::WIDTH, self.cast_unsigned())
     }
 }
 
@@ -162,6 +163,30 @@ fn lies_within(len: usize, at: usize, width: usize) -> bool
     ensures { result ≡ nat_le (width + at) len }
 {
     at <= len && width <= len - at
+}
+
+fn whole(field: &[u8], width: usize) -> Option<u64>
+    requires { width ≤ 8 }
+    ensures value { result ≡ meant_by be width field.now }
+    ensures small { IfSome result (λ n. n < 256 ^ width) }
+{
+    if field.len() == width {
+        Some(unsigned(field))
+    } else {
+        None
+    }
+}
+
+fn put_whole(field: &mut [u8], width: usize, value: u64) -> Result<(), Outside>
+    requires { width ≤ 8 }
+    ensures answer { is_ok result ≡ fills width field.old }
+    ensures after { field.new ≡ written_over width (bytes_of width value) field.old }
+{
+    if field.len() != width {
+        return Err(Outside);
+    }
+    put_unsigned(field, value);
+    Ok(())
 }
 
 fn unsigned(field: &[u8]) -> u64

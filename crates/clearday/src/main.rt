@@ -1,8 +1,8 @@
 //! Reads a day file from standard input, carries it out over an empty store of 1,024 rows, and prints
-//! its listing.
+//! its listing, line by line.
 #![tactic(auto)]
 
-use dayfile::listing::listing;
+use dayfile::day::Day;
 use registers::row::BLANK;
 use registers::table::RowStore;
 use std::io;
@@ -19,6 +19,8 @@ fn main(rt: HostRuntime) -> io::Result<()> {
     let mut file = Vec::new(rt.alloc());
     rt.stdin().take(ENOUGH).read_to_end(&mut file)?;
     let mut table = [BLANK; ROOM];
-    let text = listing(rt.alloc(), RowStore::new(&mut table), file.as_slice())?;
-    print!(rt; "{text}")
+    for line in Day::new(RowStore::new(&mut table), file.as_slice()) {
+        println!(rt; "{line}")?;
+    }
+    Ok(())
 }

@@ -5,7 +5,7 @@ use Rattle.std.specs.Option.{option_to_list}
 use Rattle.std.proofs.lemmas.List.{length-take-le}
 use Rattle.day_records.specs.declared.fault.FileFault.{FileFault}
 use Rattle.day_records.specs.declared.fault.FileFault.TheVariants.{UnknownLetter, CutShort}
-use Rattle.day_records.specs.declared.kind.Kind.{Kind}
+use Rattle.day_records.specs.declared.kind.RecordKind.{RecordKind}
 use Rattle.day_records.specs.Kinds.{kind_for, length_of}
 use Rattle.day_records.specs.Items.{Item, Seen, Bad, begun, item_at, place_after, items_from}
 
@@ -21,7 +21,7 @@ skips (suc n) p (b ∷ bs) h =
 pub record Step (s : List ℕ) (p : ℕ) (o : Option Item) : Type 0 where
   pub items : items_from 0 p (drop p s) ≡ option_to_list o ++ items_from 0 (place_after o p (length s)) (drop (place_after o p (length s)) s)
   pub ends : is_some o ≡ true → (p < place_after o p (length s)) × (place_after o p (length s) ≤ length s)
-  pub whole : (k : Kind) (body : List ℕ) (q : ℕ) → o ≡ Some (Seen k body q) → length body ≡ length_of k
+  pub whole : (k : RecordKind) (body : List ℕ) (q : ℕ) → o ≡ Some (Seen k body q) → length body ≡ length_of k
 
 module _ (s : List ℕ) (p : ℕ) where
   at_end : drop p s ≡ [] → Step s p None
@@ -39,7 +39,7 @@ module _ (s : List ℕ) (p : ℕ) where
           whole = λ k body q h. cc;
         }
 
-    seen : (k : Kind) → begun (kind_for b) p bs ≡ Seen k (take (length_of k) bs) p → length_of k ≤ length bs → Step s p (Some (Seen k (take (length_of k) bs) p))
+    seen : (k : RecordKind) → begun (kind_for b) p bs ≡ Seen k (take (length_of k) bs) p → length_of k ≤ length bs → Step s p (Some (Seen k (take (length_of k) bs) p))
     seen k e h =
         let n : p + suc (length_of k) ≡ p + 1 + length_of k = omega arith in
         let d : drop (p + 1 + length_of k) s ≡ drop (length_of k) bs = ap (λ (m : ℕ). drop m s) (sym n) ∙ sym (drop-drop (suc (length_of k)) p s) ∙ ap (drop (suc (length_of k))) is in
@@ -52,13 +52,13 @@ module _ (s : List ℕ) (p : ℕ) where
               ap length (sym bb) ∙ length-take-le (length_of k) bs h ∙ ap length_of kk;
         }
 
-    by_length : (k : Kind) (t : Bool) → ltb (length bs) (length_of k) ≡ t → begun (kind_for b) p bs ≡ cond t (Bad CutShort p) (Seen k (take (length_of k) bs) p) → Step s p (Some (cond t (Bad CutShort p) (Seen k (take (length_of k) bs) p)))
+    by_length : (k : RecordKind) (t : Bool) → ltb (length bs) (length_of k) ≡ t → begun (kind_for b) p bs ≡ cond t (Bad CutShort p) (Seen k (take (length_of k) bs) p) → Step s p (Some (cond t (Bad CutShort p) (Seen k (take (length_of k) bs) p)))
     by_length k true e f = bad CutShort f
     by_length k false e f = seen k f (ltb-false _ _ e)
 
-    by_kind : (o : Option Kind) → kind_for b ≡ o → Step s p (Some (begun o p bs))
-    by_kind None e = bad UnknownLetter (ap (λ (x : Option Kind). begun x p bs) e)
-    by_kind (Some k) e = by_length k (ltb (length bs) (length_of k)) refl (ap (λ (x : Option Kind). begun x p bs) e)
+    by_kind : (o : Option RecordKind) → kind_for b ≡ o → Step s p (Some (begun o p bs))
+    by_kind None e = bad UnknownLetter (ap (λ (x : Option RecordKind). begun x p bs) e)
+    by_kind (Some k) e = by_length k (ltb (length bs) (length_of k)) refl (ap (λ (x : Option RecordKind). begun x p bs) e)
 
   by_rest : (t : List ℕ) → drop p s ≡ t → Step s p (item_at p t)
   by_rest [] e = at_end e
@@ -68,5 +68,5 @@ module _ (s : List ℕ) (p : ℕ) where
   step = by_rest (drop p s) refl
 
 -- the fields of a record that stands at a place are whole
-pub fields_whole : (s : List ℕ) (p : ℕ) (k : Kind) (body : List ℕ) (q : ℕ) → ◌≡◌ {A = Option Item} (Some (Seen k body q)) (item_at p (drop p s)) → length body ≡ length_of k
+pub fields_whole : (s : List ℕ) (p : ℕ) (k : RecordKind) (body : List ℕ) (q : ℕ) → ◌≡◌ {A = Option Item} (Some (Seen k body q)) (item_at p (drop p s)) → length body ≡ length_of k
 fields_whole s p k body q e = (step s p).whole k body q (sym e)

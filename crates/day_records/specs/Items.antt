@@ -1,20 +1,21 @@
 -- What the bytes of a day file hold: a header, and records one behind the other.
-use Rattle.std.specs.Prelude.{ℕ, zero, suc, ◌+◌, Bool, cond, ◌&&◌, List, [], ◌∷◌, length, take, drop, Some, None, Ok, Err, Option, Result, ◌==◌, nat_le, nat_lt, slice_index}
+use Rattle.std.specs.Prelude.{ℕ, zero, suc, ◌+◌, Bool, if◌then◌else◌, ◌&&◌, List, [], ◌∷◌, length, take, drop, Some, None, Ok, Err, Option, Result, ◌==◌, nat_le, nat_lt, slice_index}
 use Rattle.byte_fields.specs.Fields.{be, part}
+use Rattle.day_records.specs.declared.day_file.TheConstants.{GREATEST_LENGTH, HEADER_LENGTH}
 use Rattle.day_records.specs.declared.fault.FileFault.{FileFault}
 use Rattle.day_records.specs.declared.fault.FileFault.TheVariants.{TooLong, UnknownLetter, CutShort, BadHeader}
-use Rattle.day_records.specs.declared.kind.Kind.{Kind}
+use Rattle.day_records.specs.declared.kind.RecordKind.{RecordKind}
 use Rattle.day_records.specs.Kinds.{kind_for, length_of}
 
 -- what stands at a place: a record with its kind and its fields, or a fault
 pub data Item : Type 0 where
-  Seen : Kind → List ℕ → ℕ → Item
+  Seen : RecordKind → List ℕ → ℕ → Item
   Bad : FileFault → ℕ → Item
 
 -- what begins with a letter at a place, given the bytes behind it
-abbrev pub begun : Option Kind → ℕ → List ℕ → Item
+abbrev pub begun : Option RecordKind → ℕ → List ℕ → Item
 begun None place bs = Bad UnknownLetter place
-begun (Some k) place bs = cond (nat_lt (length bs) (length_of k)) (Bad CutShort place) (Seen k (take (length_of k) bs) place)
+begun (Some k) place bs = if nat_lt (length bs) (length_of k) then Bad CutShort place else Seen k (take (length_of k) bs) place
 
 -- the first item of the bytes from a place on, None where there are none
 abbrev pub item_at : ℕ → List ℕ → Option Item
@@ -41,15 +42,15 @@ items_from zero place (b ∷ bs) = onward (begun (kind_for b) place bs) (λ n. i
 
 -- whether there is a header with the mark LRD and version 1
 abbrev pub headed : List ℕ → Bool
-headed s = nat_le 7 (length s) && (slice_index s 0 == 76 && (slice_index s 1 == 82 && (slice_index s 2 == 68 && (slice_index s 3 == 0 && slice_index s 4 == 1))))
+headed s = nat_le HEADER_LENGTH (length s) && (slice_index s 0 == 76 && (slice_index s 1 == 82 && (slice_index s 2 == 68 && (slice_index s 3 == 0 && slice_index s 4 == 1))))
 
 -- the reserve, or what is wrong with the file as a whole
 abbrev pub header_of : List ℕ → Result ℕ FileFault
-header_of s = cond (nat_lt 65536 (length s)) (Err TooLong) (cond (headed s) (Ok (be (part 2 5 s))) (Err BadHeader))
+header_of s = if nat_lt GREATEST_LENGTH (length s) then Err TooLong else (if headed s then Ok (be (part 2 5 s)) else Err BadHeader)
 
 -- all items of a file: the fault of its header, or what stands behind the header
 abbrev pub items_behind : Result ℕ FileFault → List ℕ → List Item
-items_behind (Ok reserve) s = items_from 0 7 (drop 7 s)
+items_behind (Ok reserve) s = items_from 0 HEADER_LENGTH (drop HEADER_LENGTH s)
 items_behind (Err fault) s = Bad fault 0 ∷ []
 
 abbrev pub items_of : List ℕ → List Item

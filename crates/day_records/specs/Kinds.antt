@@ -1,16 +1,17 @@
 -- The kinds of records: their letters, the lengths of their bodies, and the numbers of faults.
-use Rattle.std.specs.Prelude.{ℕ, cond, List, [], ◌∷◌, Some, None, Option, ◌==◌}
+use Rattle.std.specs.Prelude.{ℕ, if◌then◌else◌, List, [], ◌∷◌, ◌++◌, Some, None, Option, ◌==◌}
 use Rattle.std.specs.Option.{option_map}
+use Rattle.byte_fields.specs.Fields.{bytes_of}
 use Rattle.day_records.specs.declared.fault.FileFault.{FileFault}
 use Rattle.day_records.specs.declared.fault.FileFault.TheVariants.{TooLong, UnknownLetter, CutShort, BadHeader}
-use Rattle.day_records.specs.declared.kind.Kind.{Kind}
-use Rattle.day_records.specs.declared.kind.Kind.TheVariants.{Admit, Open, Credit, Post, Buy, Sell, Withdraw, Trade, Debit}
-use Rattle.day_records.specs.declared.kind.Shape.{Shape}
+use Rattle.day_records.specs.declared.kind.RecordKind.{RecordKind}
+use Rattle.day_records.specs.declared.kind.RecordKind.TheVariants.{Admit, Open, Credit, Post, Buy, Sell, Withdraw, Trade, Debit}
+use Rattle.day_records.specs.declared.shape.Shape.{Shape}
 use Rattle.day_records.specs.declared.record.Record.{Record}
 use Rattle.day_records.specs.declared.record.Record.TheVariants as records
 
 -- A, O, C, H, B, S, W, T and D
-abbrev pub letter_of : Kind → ℕ
+abbrev pub letter_of : RecordKind → ℕ
 letter_of Admit = 65
 letter_of Open = 79
 letter_of Credit = 67
@@ -22,7 +23,7 @@ letter_of Trade = 84
 letter_of Debit = 68
 
 -- how many bytes of fields follow the letter
-abbrev pub length_of : Kind → ℕ
+abbrev pub length_of : RecordKind → ℕ
 length_of Admit = 4
 length_of Open = 23
 length_of Credit = 14
@@ -34,41 +35,46 @@ length_of Trade = 20
 length_of Debit = 10
 
 -- the kind whose letter a byte is
-abbrev pub among : List Kind → ℕ → Option Kind
+abbrev pub among : List RecordKind → ℕ → Option RecordKind
 among [] b = None
-among (k ∷ ks) b = cond (b == letter_of k) (Some k) (among ks b)
+among (k ∷ ks) b = if b == letter_of k then Some k else among ks b
 
-abbrev pub kind_for : ℕ → Option Kind
+abbrev pub kind_for : ℕ → Option RecordKind
 kind_for b = among (Admit ∷ Open ∷ Credit ∷ Post ∷ Buy ∷ Sell ∷ Withdraw ∷ Trade ∷ Debit ∷ []) b
 
-abbrev pub shaped : Kind → Shape
+abbrev pub shaped : RecordKind → Shape
 shaped k = record { kind = k; length = length_of k }
 
 abbrev pub shape_of : ℕ → Option Shape
 shape_of b = option_map shaped (kind_for b)
 
--- the kind and the fields of a record
-abbrev pub kind_of : Record → Kind
-kind_of (records.Admit b) = Admit
-kind_of (records.Open b) = Open
-kind_of (records.Credit b) = Credit
-kind_of (records.Post b) = Post
-kind_of (records.Buy b) = Buy
-kind_of (records.Sell b) = Sell
-kind_of (records.Withdraw b) = Withdraw
-kind_of (records.Trade b) = Trade
-kind_of (records.Debit b) = Debit
+-- the kind of a record
+abbrev pub kind_of : Record → RecordKind
+kind_of (records.Admit security rest) = Admit
+kind_of (records.Open kind rest) = Open
+kind_of (records.Credit code rest) = Credit
+kind_of (records.Post participant rest) = Post
+kind_of (records.Buy mode rest) = Buy
+kind_of (records.Sell mode rest) = Sell
+kind_of (records.Withdraw number rest) = Withdraw
+kind_of (records.Trade number rest) = Trade
+kind_of (records.Debit participant rest) = Debit
 
+-- the bytes of its fields: those of the first field, and behind them the rest
 abbrev pub body_of : Record → List ℕ
-body_of (records.Admit b) = b.now
-body_of (records.Open b) = b.now
-body_of (records.Credit b) = b.now
-body_of (records.Post b) = b.now
-body_of (records.Buy b) = b.now
-body_of (records.Sell b) = b.now
-body_of (records.Withdraw b) = b.now
-body_of (records.Trade b) = b.now
-body_of (records.Debit b) = b.now
+body_of (records.Admit security rest) = bytes_of 2 security ++ rest.now
+body_of (records.Open kind rest) = bytes_of 1 kind ++ rest.now
+body_of (records.Credit code rest) = bytes_of 4 code ++ rest.now
+body_of (records.Post participant rest) = bytes_of 2 participant ++ rest.now
+body_of (records.Buy mode rest) = bytes_of 1 mode ++ rest.now
+body_of (records.Sell mode rest) = bytes_of 1 mode ++ rest.now
+body_of (records.Withdraw number rest) = bytes_of 4 number ++ rest.now
+body_of (records.Trade number rest) = bytes_of 4 number ++ rest.now
+body_of (records.Debit participant rest) = bytes_of 2 participant ++ rest.now
+
+-- all its bytes: its letter and its fields
+abbrev pub spelled : Record → List ℕ
+spelled r = letter_of (kind_of r) ∷ body_of r
 
 -- the refusal number of each fault
 abbrev pub fault_number : FileFault → ℕ

@@ -2,11 +2,12 @@
 use Rattle.std.specs.Prelude.{◌≡◌, ℕ, ◌^◌, ◌<◌, ◌≤◌, ⊤, List, length, drop, OnSome, Ok, Err, Option, Result}
 use Rattle.std.specs.Iterator.{YieldsFirstBy}
 use Rattle.std.specs.Option.{option_map}
-use Rattle.day_records.specs.declared.cursor.DayFile.{DayFile}
-use Rattle.day_records.specs.declared.cursor.Reader.{Reader}
+use Rattle.day_records.specs.declared.day_file.DayFile.{DayFile}
+use Rattle.day_records.specs.declared.day_file.TheConstants.{HEADER_LENGTH}
+use Rattle.day_records.specs.declared.reader.Reader.{Reader}
 use Rattle.day_records.specs.declared.fault.FileFault.{FileFault}
 use Rattle.day_records.specs.declared.fault.Misread.{Misread}
-use Rattle.day_records.specs.declared.placed.Placed.{Placed}
+use Rattle.day_records.specs.declared.placed_record.PlacedRecord.{PlacedRecord}
 use Rattle.day_records.specs.Kinds.{kind_of, body_of}
 use Rattle.day_records.specs.Items.{Item, Seen, Bad, item_at, place_after, items_from}
 
@@ -16,19 +17,19 @@ header_as (Ok d) = Ok d.reserve
 header_as (Err f) = Err f
 
 -- records are read from the file itself, behind its header
-abbrev pub Opened : Result DayFile FileFault → List ℕ → Type 0
-Opened (Ok d) s = (d.records.bytes.now ≡ s) × (d.records.place ≡ 7)
-Opened (Err f) s = ⊤
+abbrev pub IsBehindHeader : Result DayFile FileFault → List ℕ → Type 0
+IsBehindHeader (Ok d) s = (d.records.bytes.now ≡ s) × (d.records.place ≡ HEADER_LENGTH)
+IsBehindHeader (Err f) s = ⊤
 
 -- a record, and an answer, as an item of the file
-abbrev pub seen_as : Placed → Item
+abbrev pub seen_as : PlacedRecord → Item
 seen_as p = Seen (kind_of p.«record») (body_of p.«record») p.place
 
-abbrev pub item_as : Result Placed Misread → Item
+abbrev pub item_as : Result PlacedRecord Misread → Item
 item_as (Ok p) = seen_as p
 item_as (Err m) = Bad m.fault m.place
 
-abbrev pub told_as : Option (Result Placed Misread) → Option Item
+abbrev pub told_as : Option (Result PlacedRecord Misread) → Option Item
 told_as o = option_map item_as o
 
 -- the items that a reader still gives, and the first of them
@@ -39,7 +40,7 @@ abbrev pub item_next : Reader → Option Item
 item_next r = item_at r.place (drop r.place r.bytes.now)
 
 -- one call of a reader: it answers the first of the items that were left, and leaves the others
-pub record Reads (before : Reader) (r : Option (Result Placed Misread)) (after : Reader) : Type 0 where
+pub record Reads (before : Reader) (r : Option (Result PlacedRecord Misread)) (after : Reader) : Type 0 where
   pub items : YieldsFirstBy item_as items_left before r after
   pub answer : told_as r ≡ item_next before
   pub left : after.place ≡ place_after (told_as r) before.place (length before.bytes.now)

@@ -1,5 +1,7 @@
 //! What is wrong with a day file.
 
+ghost use Rattle.std.specs.Prelude.{◌≡◌};
+
 /// A day file's fault. Each has its refusal number.
 #[derive(Clone, Copy, PartialEq, Eq, Debug)]
 pub enum FileFault {
@@ -11,6 +13,17 @@ pub enum FileFault {
     CutShort = 32,
     /// Another mark or version, or under 7 bytes.
     BadHeader = 33,
+}
+
+impl FileFault {
+    ghost use Rattle.day_records.specs.Kinds.{fault_number};
+
+    /// The refusal number of the fault.
+    pub fn number(self) -> u8
+        ensures { result ≡ fault_number self }
+    {
+        self as u8
+    }
 }
 
 /// A fault and where it was met: the place of the first byte of the record that cannot be read,

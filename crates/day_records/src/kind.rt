@@ -1,8 +1,10 @@
 //! The kinds of records.
 
+ghost use Rattle.std.specs.Prelude.{◌≡◌};
+
 /// What a record asks for.
 #[derive(Clone, Copy, PartialEq, Eq, Debug)]
-pub enum Kind {
+pub enum RecordKind {
     /// A: admit a security.
     Admit,
     /// O: open a register.
@@ -23,9 +25,24 @@ pub enum Kind {
     Debit,
 }
 
-/// What a letter chooses: the kind of the record, and how many bytes of fields follow the letter.
-#[derive(Clone, Copy, PartialEq, Eq, Debug)]
-pub struct Shape {
-    pub kind: Kind,
-    pub length: usize,
+impl RecordKind {
+    ghost use Rattle.day_records.specs.Kinds.{letter_of};
+
+    /// The letter of the kind.
+    pub fn letter(self) -> char
+        ensures { result ≡ letter_of self }
+    {
+        // a match: letters beside the cases, where the numbers of characters would hide them
+        match self {
+            RecordKind::Admit => 'A',
+            RecordKind::Open => 'O',
+            RecordKind::Credit => 'C',
+            RecordKind::Post => 'H',
+            RecordKind::Buy => 'B',
+            RecordKind::Sell => 'S',
+            RecordKind::Withdraw => 'W',
+            RecordKind::Trade => 'T',
+            RecordKind::Debit => 'D',
+        }
+    }
 }

@@ -1,75 +1,85 @@
-//! Reading a day file: the header, and then record by record.
+//! Reading a day file record by record.
 
-ghost use Rattle.std.specs.Prelude.{◌≡◌};
+ghost use Rattle.std.specs.Prelude.{◌≡◌, ◌<◌, ◌≤◌, Some, IsSome, length, slice_index};
 ghost use Rattle.std.specs.Iterator.{item_count};
-ghost use Rattle.day_records.specs.Items.{begun, item_at, header_of};
-ghost use Rattle.day_records.specs.Kinds.{kind_for};
-ghost use Rattle.day_records.specs.Views.{item_as, told_as, header_as, Opened, items_left, Reads};
+ghost use Rattle.day_records.specs.Items.{item_at};
+ghost use Rattle.day_records.specs.Kinds.{kind_for, spelled};
+ghost use Rattle.day_records.specs.Views.{item_as, told_as, items_left, Reads};
 
-use crate::cursor::{DayFile, Reader};
 use crate::fault::{FileFault, Misread};
-use crate::letters::shape;
-use crate::placed::Placed;
+use crate::placed_record::PlacedRecord;
+use crate::record::Record;
+use crate::shape::Shape;
 
-/// The greatest length of a day file in bytes.
-const MOST: usize = 65_536;
+/// The records of a day file that are still to be read: the file, and the place in it at which the
+/// next record begins, counted from 0. Past the end nothing is left.
+#[derive(Clone, Copy, PartialEq, Eq, Debug)]
+pub struct Reader<'a> {
+    pub bytes: &'a [u8],
+    pub place: usize,
+}
 
-/// Bytes before the first record: mark, version and reserve.
-const HEADER: usize = 7;
-
-/// Reads the header of a day file. Refuses a file over 65,536 bytes (30), and then another mark or
-/// version, or under 7 bytes (33).
-pub fn open<'a>(file: &'a [u8]) -> Result<DayFile<'a>, FileFault>
-    ensures header { header_as result ≡ header_of file.now }
-    ensures records { Opened result file.now }
+/// The record that bytes are: a letter that a record begins with, and as its fields whatever follows,
+/// which is never shorter than a first field.
+fn record<'a>(bytes: &'a [u8]) -> Record<'a>
+    requires known { IsSome (kind_for (slice_index bytes.now 0)) }
+    requires long { 5 ≤ length bytes.now }
+    ensures { spelled result ≡ bytes.now }
 {
-    if file.len() > MOST {
-        return Err(FileFault::TooLong);
-    }
-    match file {
-        [b'L', b'R', b'D', 0, 1, high, low, ..] => Ok(DayFile {
-            reserve: u16::from_be_bytes([*high, *low]),
-            records: Reader {
-                bytes: file,
-                place: HEADER,
-            },
-        }),
-        _ => Err(FileFault::BadHeader),
+    match bytes {
+        [b'A', s0, s1, rest @ ..] => Record::Admit {
+            security: u16::from_be_bytes([*s0, *s1]),
+            rest,
+        },
+        [b'O', kind, rest @ ..] => Record::Open { kind: *kind, rest },
+        [b'C', c0, c1, c2, c3, rest @ ..] => Record::Credit {
+            code: u32::from_be_bytes([*c0, *c1, *c2, *c3]),
+            rest,
+        },
+        [b'H', p0, p1, rest @ ..] => Record::Post {
+            participant: u16::from_be_bytes([*p0, *p1]),
+            rest,
+        },
+        [b'B', mode, rest @ ..] => Record::Buy { mode: *mode, rest },
+        [b'S', mode, rest @ ..] => Record::Sell { mode: *mode, rest },
+        [b'W', n0, n1, n2, n3, rest @ ..] => Record::Withdraw {
+            number: u32::from_be_bytes([*n0, *n1, *n2, *n3]),
+            rest,
+        },
+        [b'T', n0, n1, n2, n3, rest @ ..] => Record::Trade {
+            number: u32::from_be_bytes([*n0, *n1, *n2, *n3]),
+            rest,
+        },
+        [b'D', p0, p1, rest @ ..] => Record::Debit {
+            participant: u16::from_be_bytes([*p0, *p1]),
+            rest,
+        },
+        _ => unreachable!(),
     }
 }
 
-/// The record that begins with a letter at a place of the file, of the bytes behind the letter. Refuses a
-/// letter that no record begins with (31), and bytes that end within the record (32).
-fn placed<'a>(letter: u8, rest: &'a [u8], place: usize) -> Result<Placed<'a>, Misread>
-    ensures { item_as result ≡ begun (kind_for letter) place rest.now }
+/// The record that begins with the first of these bytes, which lies at a place of the file. Refuses a
+/// letter that no record begins with, and bytes that end within the record.
+fn placed<'a>(bytes: &'a [u8], place: usize) -> Result<PlacedRecord<'a>, Misread>
+    requires { 0 < length bytes.now }
+    ensures { Some (item_as result) ≡ item_at place bytes.now }
 {
-    let shape = shape(letter).ok_or(Misread {
+    let shape = Shape::of(bytes[0]).ok_or(Misread {
         fault: FileFault::UnknownLetter,
         place,
     })?;
-    let body = rest.get(..shape.length).ok_or(Misread {
+    let whole = bytes.get(..=shape.length).ok_or(Misread {
         fault: FileFault::CutShort,
         place,
     })?;
-    Ok(Placed {
-        record: shape.kind.record(body),
+    Ok(PlacedRecord {
+        record: record(whole),
         place,
     })
 }
 
-/// The record that begins with the first of these bytes, which lies at a place of the file; the fault
-/// that it has; or `None` where there are no bytes.
-fn first<'a>(bytes: &'a [u8], place: usize) -> Option<Result<Placed<'a>, Misread>>
-    ensures { told_as result ≡ item_at place bytes.now }
-{
-    let [letter, rest @ ..] = bytes else {
-        return None;
-    };
-    Some(placed(*letter, rest, place))
-}
-
 impl<'a> Iterator for Reader<'a> {
-    type Item = Result<Placed<'a>, Misread>;
+    type Item = Result<PlacedRecord<'a>, Misread>;
 
     ghost next_gives = { Reads };
 
@@ -77,13 +87,13 @@ impl<'a> Iterator for Reader<'a> {
 
     /// The next record with its place, the fault that stops the reading, or `None` at the end of the
     /// file. After a fault nothing is left to read.
-    fn next(&mut self) -> Option<Result<Placed<'a>, Misread>> {
+    fn next(&mut self) -> Option<Result<PlacedRecord<'a>, Misread>> {
         let place = self.place;
         let bytes = self.bytes;
         if place >= bytes.len() {
             return None;
         }
-        let told = first(&bytes[place..], place)?;
+        let told = placed(&bytes[place..], place);
         self.place = match told {
             Ok(read) => place + 1 + read.record.length(),
             Err(_) => bytes.len(),

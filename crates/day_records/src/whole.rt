@@ -4,9 +4,9 @@ ghost use Rattle.std.specs.Prelude.{◌≡◌, map, IfOk};
 ghost use Rattle.day_records.specs.Items.{items_of};
 ghost use Rattle.day_records.specs.Views.{item_as};
 
+use crate::day_file::open;
 use crate::fault::Misread;
-use crate::placed::Placed;
-use crate::reader::open;
+use crate::placed_record::PlacedRecord;
 use std::alloc::{AllocError, Global};
 use std::iter;
 
@@ -15,7 +15,7 @@ use std::iter;
 pub fn read_all<'a>(
     heap: Global,
     file: &'a [u8],
-) -> Result<Vec<Result<Placed<'a>, Misread>>, AllocError>
+) -> Result<Vec<Result<PlacedRecord<'a>, Misread>>, AllocError>
     ensures { IfOk result (λ v. map item_as v.items ≡ items_of file.now) }
 {
     match open(file) {

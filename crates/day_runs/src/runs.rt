@@ -1,36 +1,52 @@
 //! Carrying out a whole day.
 
-ghost use Rattle.std.specs.Prelude.{◌≡◌, ℕ, [], take};
-ghost use Rattle.full_runs.specs.Runs.{outcomes_of, state_after};
-ghost use Rattle.full_runs.specs.Tally.{empty, tallied};
-ghost use Rattle.full_runs.specs.Law.{Law};
-ghost use Rattle.day_runs.specs.Days.{reserve_of, calls_of, begin_of};
+ghost use Rattle.std.specs.Prelude.{◌≡◌, List, ◌∷◌};
+ghost use Rattle.dayfile.specs.declared.line.Line.{Line as LineOf};
+ghost use Rattle.day_runs.specs.Days.{filled, told_by, RanDay, changes_of_day};
 
-use day_records::reader::open;
-use dayfile::carrying::carry_out;
-use full::engine::Engine;
+use dayfile::day::Day;
+use dayfile::line::Line;
+use dayfile::refusal::LineRefusal;
+use partial::engine::Engine;
 use registers::store::Store;
 
-/// Builds an engine over a store, with the reserve of a day file, and carries out the records of the
-/// file as far as it can be read. The engine is handed out as the last record left it; a file whose
-/// header has a fault leaves it new, with reserve 0.
+/// Tells what came of a record in the place that is next, if there is one and the line is of a record;
+/// answers the place that is next then.
+fn tell(outcomes: &mut [Result<i64, LineRefusal>], next: usize, line: Line) -> usize
+    ensures { (ls : List LineOf) →
+        filled outcomes.new result (told_by ls) ≡ filled outcomes.old next (told_by (line ∷ ls)) }
+{
+    let Line::Record { outcome, .. } = line else {
+        return next;
+    };
+    if next >= outcomes.len() {
+        return next;
+    }
+    outcomes[next] = outcome;
+    next + 1
+}
+
+/// Carries out a day file over a store, line by line as a `Day` tells it, and hands the engine out as the
+/// last record left it; a file whose header has a fault leaves it new, with reserve 0. What came of each
+/// record is told in its place, as far as there are places for outcomes; places behind the records stay.
 ///
 /// If the store was empty, the law over whole runs holds after each call that the file asks for:
 /// between the state and a tally that was fed those calls and their outcomes alone.
-pub fn run_day<S: Store>(store: S, file: &[u8]) -> Engine<S>
-    ensures left { result.state ≡ state_after (begin_of (S.Store.rows store) (S.Store.capacity store) file.now) (calls_of file.now) }
-    ensures law { S.Store.rows store ≡ [] → (n : ℕ) → Law (reserve_of file.now) (tallied empty (take n (calls_of file.now)) (outcomes_of (begin_of (S.Store.rows store) (S.Store.capacity store) file.now) (calls_of file.now))) (state_after (begin_of (S.Store.rows store) (S.Store.capacity store) file.now) (take n (calls_of file.now))) }
-    ensures kept { S.Store.rows store ≡ [] → Law (reserve_of file.now) (tallied empty (calls_of file.now) (outcomes_of (begin_of (S.Store.rows store) (S.Store.capacity store) file.now) (calls_of file.now))) result.state }
+// the places of outcomes are lent: there is no heap
+pub fn run_day<S: Store>(
+    store: S,
+    file: &[u8],
+    outcomes: &mut [Result<i64, LineRefusal>],
+) -> Engine<S>
+    ensures ran { RanDay (S.Store.rows store) (S.Store.capacity store) file.now outcomes.old outcomes.new
+        result.state }
+    ensures changes { S.Store.made store (changes_of_day (S.Store.rows store) (S.Store.capacity store) file.now)
+        result.store }
 {
-    let Ok(day) = open(file) else {
-        return Engine::new(store, 0);
-    };
-    let mut engine = Engine::new(store, day.reserve);
-    for told in day.records {
-        if let Ok(read) = told {
-            // a refusal leaves the engine as it stood, and the day goes on
-            let _ = carry_out(&mut engine, read.record);
-        }
+    let mut day = Day::new(store, file);
+    let mut next = 0;
+    while let Some(line) = day.next_line() {
+        next = tell(outcomes, next, line);
     }
-    engine
+    day.into_engine()
 }

@@ -3,10 +3,8 @@
 //! the same day in hex with remarks.
 #![tactic(auto)]
 
-mod source;
-
-use crate::source::bytes_of;
 use dayfile::listing::listing;
+use hex_source::reading::bytes_of;
 use registers::row::BLANK;
 use registers::table::RowStore;
 use std::alloc::{AllocError, Global};
@@ -16,7 +14,7 @@ use std::{env, fs, io};
 const ROOM: usize = 1_024;
 
 /// Listings up to this length are printed whole.
-const SHORT: usize = 700;
+const SHORT: usize = 800;
 
 /// The listing of a day over an empty store.
 fn list(heap: Global, file: &[u8]) -> Result<String, AllocError> {
@@ -30,11 +28,10 @@ fn check_source(rt: &HostRuntime, name: &str, file: &[u8]) -> io::Result<()> {
     let Ok(source) = fs::read(rt, path.as_str()) else {
         return Ok(());
     };
-    let spelled = bytes_of(rt.alloc(), source.as_slice())?;
-    if spelled.as_slice() == file {
-        print!(rt; ", as its source spells it")
-    } else {
-        print!(rt; ", OTHER THAN ITS SOURCE")
+    match bytes_of(rt.alloc(), source.as_slice()) {
+        Ok(spelled) if spelled.as_slice() == file => print!(rt; ", as its source spells it"),
+        Ok(_) => print!(rt; ", OTHER THAN ITS SOURCE"),
+        Err(error) => print!(rt; ", NO SOURCE: {error}"),
     }
 }
 

@@ -1,104 +1,91 @@
 //! A record as a call of the engine.
 
-ghost use Rattle.std.specs.Prelude.{◌≡◌};
+ghost use Rattle.std.specs.Prelude.{◌≡◌, ◌++◌};
+ghost use Rattle.std.specs.Option.{ok_or};
+ghost use Rattle.byte_fields.specs.Fields.{bytes_of, meant_at};
+ghost use Rattle.day_records.specs.declared.fault.FileFault.TheVariants.{CutShort};
 ghost use Rattle.day_records.specs.Kinds.{kind_of, body_of};
-ghost use Rattle.dayfile.specs.Calls.{full_length, admit_in, open_in, credit_in, announce_in, withdraw_in, trade_in, call_for};
+ghost use Rattle.dayfile.specs.Calls.{full_length, announce_in, call_for};
 
-use crate::refusal::LineRefusal;
-use byte_fields::read;
+use byte_fields::{Field, read};
 use day_records::fault::FileFault;
 use day_records::record::Record;
-use full_runs::call::Call;
-use orders::order::Side;
-use orders::refusal::Refusal;
-use orders::terms::{Announcement, Deal, Opening};
+use full::announcement::Announcement;
+use full::call::Call as FullCall;
+use full::deal::Deal;
+use full::opening::Opening;
+use full::side::Side;
+use partial::call::Call;
 
-fn admission(body: &[u8]) -> Option<Call>
-    ensures { result ≡ full_length 4 body.now (admit_in body.now) }
+/// The field from a place on. Refuses (32) bytes that end before it does.
+fn field<T: Field>(bytes: &[u8], at: usize) -> Result<T, FileFault>
+    ensures { result ≡ ok_or (meant_at T.meant T.WIDTH at bytes.now) CutShort }
 {
-    Some(Call::Admit {
-        security: read(body, 0)?,
-        ratio: read(body, 2)?,
-    })
+    read(bytes, at).ok_or(FileFault::CutShort)
 }
 
-fn opening(body: &[u8]) -> Option<Call>
-    ensures { result ≡ full_length 23 body.now (open_in body.now) }
+/// The announcement that mode and further fields ask for. Refuses (32) fields that are cut short.
+fn announcement(side: Side, mode: u8, rest: &[u8]) -> Result<Call, FileFault>
+    ensures { result
+        ≡ ok_or
+        (full_length 19 (bytes_of 1 mode ++ rest.now) (announce_in side (bytes_of 1 mode ++ rest.now)))
+        CutShort }
 {
-    let [kind, ..] = body else {
-        return None;
-    };
-    Some(Call::Open(Opening {
-        kind: *kind,
-        code: read(body, 1)?,
-        security: read(body, 5)?,
-        limit: read(body, 7)?,
-        margin: read(body, 15)?,
-    }))
-}
-
-fn crediting(body: &[u8]) -> Option<Call>
-    ensures { result ≡ full_length 14 body.now (credit_in body.now) }
-{
-    Some(Call::Credit {
-        code: read(body, 0)?,
-        security: read(body, 4)?,
-        amount: read(body, 6)?,
-    })
-}
-
-fn announcement(body: &[u8], side: Side) -> Option<Call>
-    ensures { result ≡ full_length 19 body.now (announce_in side body.now) }
-{
-    let [mode, ..] = body else {
-        return None;
-    };
-    Some(Call::Announce(Announcement {
+    Ok(Call::from(FullCall::Announce(Announcement {
         side,
-        mode: *mode,
-        number: read(body, 1)?,
-        account: read(body, 5)?,
-        security: read(body, 9)?,
-        quantity: read(body, 11)?,
-        price: read(body, 15)?,
-    }))
-}
-
-fn withdrawal(body: &[u8]) -> Option<Call>
-    ensures { result ≡ full_length 4 body.now (withdraw_in body.now) }
-{
-    Some(Call::Withdraw {
-        number: read(body, 0)?,
-    })
-}
-
-fn trade(body: &[u8]) -> Option<Call>
-    ensures { result ≡ full_length 20 body.now (trade_in body.now) }
-{
-    Some(Call::Trade(Deal {
-        number: read(body, 0)?,
-        buy: read(body, 4)?,
-        sell: read(body, 8)?,
-        quantity: read(body, 12)?,
-        price: read(body, 16)?,
-    }))
+        mode,
+        number: field(rest, 0)?,
+        account: field(rest, 4)?,
+        security: field(rest, 8)?,
+        quantity: field(rest, 10)?,
+        price: field(rest, 14)?,
+    })))
 }
 
 /// The call that a record asks for, its fields as arguments. Refuses a record whose fields are cut
-/// short (32), and one that this level has no call for: posting collateral and debiting it (5).
-pub fn call(record: Record<'_>) -> Result<Call, LineRefusal>
+/// short (32).
+pub fn call(record: Record<'_>) -> Result<Call, FileFault>
     ensures { result ≡ call_for (kind_of «record».entry) (body_of «record».entry) }
 {
-    // case by case, since each kind of record is a case of its own (docs/DECISIONS.md, 51)
     let call = match record {
-        Record::Admit(body) => admission(body),
-        Record::Open(body) => opening(body),
-        Record::Credit(body) => crediting(body),
-        Record::Buy(body) => announcement(body, Side::Buy),
-        Record::Sell(body) => announcement(body, Side::Sell),
-        Record::Withdraw(body) => withdrawal(body),
-        Record::Trade(body) => trade(body),
-        Record::Post(_) | Record::Debit(_) => return Err(Refusal::BadValue.into()),
+        Record::Admit { security, rest } => FullCall::Admit {
+            security,
+            ratio: field(rest, 0)?,
+        },
+        Record::Open { kind, rest } => FullCall::Open(Opening {
+            kind,
+            code: field(rest, 0)?,
+            security: field(rest, 4)?,
+            limit: field(rest, 6)?,
+            margin: field(rest, 14)?,
+        }),
+        Record::Credit { code, rest } => FullCall::Credit {
+            code,
+            security: field(rest, 0)?,
+            amount: field(rest, 2)?,
+        },
+        Record::Post { participant, rest } => {
+            return Ok(Call::Post {
+                participant,
+                amount: field(rest, 0)?,
+            });
+        }
+        Record::Buy { mode, rest } => return announcement(Side::Buy, mode, rest),
+        Record::Sell { mode, rest } => return announcement(Side::Sell, mode, rest),
+        Record::Withdraw { number, .. } => FullCall::Withdraw { number },
+        Record::Trade { number, rest } => FullCall::Trade(Deal {
+            number,
+            buy: field(rest, 0)?,
+            sell: field(rest, 4)?,
+            quantity: field(rest, 8)?,
+            price: field(rest, 12)?,
+        }),
+        Record::Debit { participant, rest } => {
+            return Ok(Call::Debit {
+                participant,
+                amount: field(rest, 0)?,
+            });
+        }
     };
-    call.ok_or(FileFault::CutShort.into())
+    Ok(call.into())
 }

@@ -4,9 +4,7 @@
 pub mod calls;
 pub mod carrying;
 pub mod day;
-pub mod days;
 pub mod line;
 pub mod listing;
+pub mod listing_stage;
 pub mod refusal;
-pub mod refusals;
-pub mod texts;

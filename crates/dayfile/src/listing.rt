@@ -12,7 +12,8 @@ use std::alloc::{AllocError, Global};
 /// cannot be read to its end has a line that says where and why. `AllocError` where memory does not
 /// suffice for the text. The store is let go: who wants its rows afterwards drives a `Day`.
 pub fn listing<S: Store + Drop>(heap: Global, store: S, file: &[u8]) -> Result<String, AllocError>
-    ensures { IfOk result (λ t. string_bytes t ≡ listing_text (lines_of (S.Store.rows store) (S.Store.capacity store) file.now)) }
+    ensures { IfOk result
+        (λ t. string_bytes t ≡ listing_text (lines_of (S.Store.rows store) (S.Store.capacity store) file.now)) }
 {
     let mut text = String::new(heap);
     for line in Day::new(store, file) {

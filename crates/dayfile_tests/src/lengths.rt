@@ -25,6 +25,37 @@ fn a_day_cut_at_every_byte(rt: HostRuntime) -> Result<(), Fail> {
     Ok(())
 }
 
+/// A day of 53 bytes: participant 7's limit is opened with 100 and the margin 40, 50 are posted, and 109 are
+/// debited. The header is 7 bytes, the opening 24, the posting and the debit 11 each.
+const COLLATERAL: [u8; 53] = [
+    0x4C, 0x52, 0x44, 0, 1, 0, 200, 0x4F, 3, 0, 0, 0, 7, 0, 0, 0, 0, 0, 0, 0, 0, 0, 100, 0, 0, 0,
+    0, 0, 0, 0, 40, 0x48, 0, 7, 0, 0, 0, 0, 0, 0, 0, 50, 0x44, 0, 7, 0, 0, 0, 0, 0, 0, 0, 109,
+];
+
+/// What the first `length` bytes of that day are listed as.
+fn expected_of_collateral(length: usize) -> &'static str {
+    match length {
+        0..=6 => "1 fault 33 F 0\nend 0\n",
+        7 => "end 0\n",
+        8..=30 => "1 fault 32 F 7\nend 0\n",
+        31 => "1 O ok 1\nend 1\nR 3 7 0 100 40 100\n",
+        32..=41 => "1 O ok 1\n2 fault 32 F 31\nend 1\nR 3 7 0 100 40 100\n",
+        42 => "1 O ok 1\n2 H ok 150\nend 2\nR 3 7 0 150 40 150\n",
+        43..=52 => "1 O ok 1\n2 H ok 150\n3 fault 32 F 42\nend 2\nR 3 7 0 150 40 150\n",
+        _ => "1 O ok 1\n2 H ok 150\n3 D ok 41\nend 3\nR 3 7 0 41 40 41\n",
+    }
+}
+
+#[test]
+fn collateral_cut_at_every_byte(rt: HostRuntime) -> Result<(), Fail> {
+    // the lengths themselves are gone through
+    for length in 0..54 {
+        let expected = expected_of_collateral(length);
+        check_listing(&rt, rt.alloc(), &COLLATERAL[0..length], expected)?;
+    }
+    Ok(())
+}
+
 /// A file of a length: the header, and then withdrawals of order 0, of which the last may be cut.
 fn withdrawals(heap: Global, length: usize) -> Result<Vec<u8>, AllocError> {
     (0..length)

@@ -2,7 +2,11 @@
 #![tactic(auto)]
 
 #[cfg(test)]
+mod collateral;
+#[cfg(test)]
 mod lengths;
+#[cfg(test)]
+mod outcomes;
 #[cfg(test)]
 mod records;
 #[cfg(test)]

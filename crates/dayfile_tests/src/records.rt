@@ -2,13 +2,12 @@
 
 use crate::support::{DAY, check, check_listing};
 use day_records::fault::{FileFault, Misread};
-use day_records::letters::shape;
-use day_records::placed::Placed;
+use day_records::placed_record::PlacedRecord;
 use day_records::record::Record;
+use day_records::shape::Shape;
 use day_records::whole::read_all;
 use dayfile::calls::call;
-use dayfile::refusal::LineRefusal;
-use full_runs::call::Call;
+use partial::call::Call;
 use std::test::Fail;
 
 /// Every byte as the letter of a record that has no fields: nine are cut short, all others unknown.
@@ -44,29 +43,38 @@ fn lengths_of_records(rt: HostRuntime) {
     ] {
         check(
             &rt,
-            shape(letter).map(|shape| (shape.length, shape.kind.letter())),
+            Shape::of(letter).map(|shape| (shape.length, shape.kind.letter())),
             Some((length, char::from(letter))),
         );
     }
 }
 
-/// The two records of the day, by their places and their fields.
+/// The two records of the day, by their places, their first fields and the rest of their bytes.
 #[test]
 fn records_of_a_day(rt: HostRuntime) -> Result<(), Fail> {
+    let opening = Record::Open {
+        kind: 1,
+        rest: &DAY[9..31],
+    };
+    let withdrawal = Record::Withdraw {
+        number: 1,
+        rest: &[],
+    };
     let items = read_all(rt.alloc(), &DAY)?;
     let expected = [
-        Ok(Placed {
-            record: Record::Open(&DAY[8..31]),
+        Ok(PlacedRecord {
+            record: opening,
             place: 7,
         }),
-        Ok(Placed {
-            record: Record::Withdraw(&DAY[32..36]),
+        Ok(PlacedRecord {
+            record: withdrawal,
             place: 31,
         }),
     ];
     check(&rt, items.as_slice(), expected.as_slice());
-    check(&rt, Record::Open(&DAY[8..31]).length(), 23);
-    check(&rt, Record::Withdraw(&DAY[32..36]).kind().letter(), 'W');
+    check(&rt, opening.length(), 23);
+    check(&rt, withdrawal.length(), 4);
+    check(&rt, withdrawal.kind().letter(), 'W');
     Ok(())
 }
 
@@ -85,28 +93,62 @@ fn fault_of_the_header(rt: HostRuntime) -> Result<(), Fail> {
 
 // numbers and letters, which the rules give: tests hold to them
 
-/// The number and the layer of a refusal, or `None` where there is a call.
-fn refused(answer: Result<Call, LineRefusal>) -> Option<(u8, char)> {
-    answer
-        .err()
-        .map(|refusal| (refusal.number(), refusal.layer().letter()))
+/// The number of the fault that a record has in place of a call, or `None` where there is a call.
+fn refused(answer: Result<Call, FileFault>) -> Option<u8> {
+    answer.err().map(|fault| fault.number())
 }
 
-/// Fields that are cut short give no call, and this level has none for posting and debiting.
+/// Fields that are cut short give no call.
 #[test]
 fn records_without_a_call(rt: HostRuntime) {
-    check(
-        &rt,
-        refused(call(Record::Withdraw(&[0, 0, 0]))),
-        Some((32, 'F')),
-    );
-    check(
-        &rt,
-        refused(call(Record::Open(&DAY[8..30]))),
-        Some((32, 'F')),
-    );
-    check(&rt, refused(call(Record::Post(&[0; 10]))), Some((5, 'L')));
-    check(&rt, refused(call(Record::Debit(&[0; 10]))), Some((5, 'L')));
+    let admission = Record::Admit {
+        security: 5,
+        rest: &[0],
+    };
+    let opening = Record::Open {
+        kind: 1,
+        rest: &DAY[9..30],
+    };
+    check(&rt, refused(call(admission)), Some(32));
+    check(&rt, refused(call(opening)), Some(32));
+}
+
+/// Posting and debiting, with each length of the fields behind the participant: only the whole amount
+/// gives a call, each its own.
+#[test]
+fn posting_and_debiting_cut_at_every_byte(rt: HostRuntime) {
+    let amount = [0, 0, 0, 0, 0, 0, 1, 0xF4];
+    // the lengths themselves are gone through
+    for length in 0..8 {
+        let posting = Record::Post {
+            participant: 7,
+            rest: &amount[0..length],
+        };
+        let debit = Record::Debit {
+            participant: 7,
+            rest: &amount[0..length],
+        };
+        check(&rt, refused(call(posting)), Some(32));
+        check(&rt, refused(call(debit)), Some(32));
+    }
+    let posting = Record::Post {
+        participant: 7,
+        rest: &amount,
+    };
+    let debit = Record::Debit {
+        participant: 7,
+        rest: &amount,
+    };
+    let posted = Call::Post {
+        participant: 7,
+        amount: 500,
+    };
+    let debited = Call::Debit {
+        participant: 7,
+        amount: 500,
+    };
+    check(&rt, call(posting), Ok(posted));
+    check(&rt, call(debit), Ok(debited));
 }
 
 #[test]

@@ -1,7 +1,7 @@
 //! A day over a byte image, line by line, and the store that it leaves.
 
 use crate::support::{DAY, check};
-use day_records::kind::Kind;
+use day_records::kind::RecordKind;
 use day_runs::runs::run_day;
 use dayfile::day::Day;
 use dayfile::line::Line;
@@ -32,15 +32,15 @@ fn a_day_that_is_stopped(rt: HostRuntime) {
     let mut bytes = [0; 69];
     check(&rt, image::format(&mut bytes), Ok(()));
     let mut day = Day::new(ImageStore::new(&mut bytes), &DAY);
-    check(&rt, day.engine.store.count(), 0);
+    check(&rt, day.engine.full.store.count(), 0);
     let first = day.next();
-    check(&rt, day.engine.store.count(), 1);
+    check(&rt, day.engine.full.store.count(), 1);
     check(
         &rt,
         first,
         Some(Line::Record {
             number: 1,
-            kind: Kind::Open,
+            kind: RecordKind::Open,
             outcome: Ok(1),
         }),
     );
@@ -62,13 +62,13 @@ fn a_store_with_rows(rt: HostRuntime) -> Result<(), Fail> {
     Ok(())
 }
 
-/// A whole day at once leaves the rows that its listing shows.
+/// A whole day at once leaves the rows that its listing shows, also with no place for an outcome.
 #[test]
 fn a_whole_day(rt: HostRuntime) {
     let mut bytes = [0; 69];
     check(&rt, image::format(&mut bytes), Ok(()));
-    let engine = run_day(ImageStore::new(&mut bytes), &DAY);
-    let reserve = engine.reserve;
+    let engine = run_day(ImageStore::new(&mut bytes), &DAY, &mut []);
+    let reserve = engine.full.settings.reserve;
     let mut store = engine.into_store();
     check(&rt, (reserve, store.count()), (200, 1));
     check(

@@ -7,19 +7,19 @@ use Rattle.std.proofs.lemmas.List.Elements.{All-from_recursion}
 use Rattle.std.proofs.lemmas.List.Kept.{AllPairs-cons}
 use Rattle.seek.proofs.Cases.{no_case}
 use Rattle.seek.specs.Place.{place_of, on_by}
-use Rattle.registers.specs.declared.row.Key.{Key}
+use Rattle.registers.specs.declared.key.Key.{Key}
 use Rattle.registers.specs.declared.row.Row.{Row}
 use Rattle.registers.specs.Registers.{same_key}
 use Rattle.registers.specs.Stores.{place_for}
-use Rattle.full.specs.declared.held.Held.{Held}
-use Rattle.orders.specs.declared.refusal.Refusal.{Refusal}
-use Rattle.full.specs.declared.moves.Four.{Four}
-use Rattle.full.specs.declared.moves.Move.{Move}
-use Rattle.orders.specs.Steps.{and_then}
-use Rattle.full.specs.Blocks.{held_in, held_from, held_at}
-use Rattle.orders.specs.Blocks.{cash_key, holding_key}
-use Rattle.full.specs.Trades.{four_of, moves_of, Apart, Standing}
-use Rattle.full.specs.Blocks.{FiguresAt}
+use Rattle.full.specs.declared.open_register.OpenRegister.{OpenRegister}
+use Rattle.plans.specs.declared.refusal.Refusal.{Refusal}
+use Rattle.full.specs.declared.trade_registers.TradeRegisters.{TradeRegisters}
+use Rattle.full.specs.declared.register_move.Move.{Move}
+use Rattle.plans.specs.Steps.{and_then}
+use Rattle.full.specs.OpenRegisters.{register_in, register_from, register_at, FiguresAt}
+use Rattle.full.specs.Blocks.{cash_key, holding_key}
+use Rattle.full.specs.Trades.{trade_registers_of, moves_of}
+use Rattle.full.proofs.Swaps.{Apart, Standing}
 
 -- what a search found passes the test
 module _ {X : Type 0} (p : X → Bool) where
@@ -42,32 +42,32 @@ module _ {X : Type 0} (p : X → Bool) where
   passes_at (y ∷ ys) i x e f = first y ys i x (p y) refl e f (λ j g h. passes_at ys j x g h)
 
 -- an open register is a row that bears its key
-pub record Stands (rs : List Row) (k : Key) (h : Held) : Type 0 where
+pub record Stands (rs : List Row) (k : Key) (h : OpenRegister) : Type 0 where
   pub row : Row
   pub at : slice_get rs h.place ≡ Some row
   pub figures : row.figures ≡ h.figures
   pub bears : same_key row.key k ≡ true
 
-held_in_lem : (rs : List Row) (k : Key) (h : Held) (n : ℕ) (o : Option Row) → place_for k rs ≡ Some n → slice_get rs n ≡ o → held_in n o ≡ Ok h → Stands rs k h
+held_in_lem : (rs : List Row) (k : Key) (h : OpenRegister) (n : ℕ) (o : Option Row) → place_for k rs ≡ Some n → slice_get rs n ≡ o → register_in n o ≡ Ok h → Stands rs k h
 held_in_lem rs k h n None p e f = no_case (cc)
 held_in_lem rs k h n (Some r) p e f =
-    let s : ◌≡◌ {A = Held} (record { place = n; figures = r.figures }) h = cc in
+    let s : ◌≡◌ {A = OpenRegister} (record { place = n; figures = r.figures }) h = cc in
     record {
       row = r;
-      at = ap (slice_get rs) (sym (ap (λ (x : Held). x.place) s)) ∙ e;
-      figures = ap (λ (x : Held). x.figures) s;
+      at = ap (slice_get rs) (sym (ap (λ (x : OpenRegister). x.place) s)) ∙ e;
+      figures = ap (λ (x : OpenRegister). x.figures) s;
       bears = passes_at (λ x. same_key x.key k) rs n r p e;
     }
 
-held_from_lem : (rs : List Row) (k : Key) (h : Held) (o : Option ℕ) → place_for k rs ≡ o → held_from rs o ≡ Ok h → Stands rs k h
+held_from_lem : (rs : List Row) (k : Key) (h : OpenRegister) (o : Option ℕ) → place_for k rs ≡ o → register_from rs o ≡ Ok h → Stands rs k h
 held_from_lem rs k h None p f = no_case (cc)
 held_from_lem rs k h (Some n) p f = held_in_lem rs k h n (slice_get rs n) p refl f
 
-pub held_stands : (rs : List Row) (k : Key) (h : Held) → held_at rs k ≡ Ok h → Stands rs k h
-unfolding held_at
+pub held_stands : (rs : List Row) (k : Key) (h : OpenRegister) → register_at rs k ≡ Ok h → Stands rs k h
+unfolding register_at
 held_stands rs k h e = held_from_lem rs k h (place_for k rs) refl e
 
-pub held_figures : (rs : List Row) (k : Key) (h : Held) → Stands rs k h → FiguresAt rs h.place h.figures
+pub held_figures : (rs : List Row) (k : Key) (h : OpenRegister) → Stands rs k h → FiguresAt rs h.place h.figures
 held_figures rs k h s = ap (option_map (λ (r : Row). r.figures)) s.at ∙ ap Some s.figures
 
 -- keys that are the same have the same parts
@@ -77,7 +77,7 @@ same_parts a b e =
     let y = and_parts (eqb a.code b.code) (eqb a.security b.security) x.1 in
     (eqb-true a.kind b.kind x.0, eqb-true a.code b.code y.0)
 
-pub held_apart : (rs : List Row) (k l : Key) (h j : Held) → Stands rs k h → Stands rs l j → (k.kind ≡ l.kind → k.code ≡ l.code → ⊥) → h.place ≡ j.place → ⊥
+pub held_apart : (rs : List Row) (k l : Key) (h j : OpenRegister) → Stands rs k h → Stands rs l j → (k.kind ≡ l.kind → k.code ≡ l.code → ⊥) → h.place ≡ j.place → ⊥
 held_apart rs k l h j s t ne e =
     let r : s.row ≡ t.row = let x : slice_get rs h.place ≡ slice_get rs j.place = ap (slice_get rs) e in let y = s.at in let z = t.at in cc in
     let p = same_parts s.row.key k s.bears in
@@ -95,46 +95,46 @@ any_two [] h = λ i j d l k. absurd (omega arith)
 any_two (i ∷ is) h = AllPairs-cons (λ (i j : ℕ). i ≢ j) i is (All-from_recursion (λ (j : ℕ). i ≢ j) is h.0) (any_two is h.1)
 
 -- the four registers of a trade
-pub record Parts (rs : List Row) (buyer seller security : ℕ) (r : Four) : Type 0 where
-  pub payer : Stands rs (cash_key buyer) r.payer
-  pub payee : Stands rs (cash_key seller) r.payee
-  pub taker : Stands rs (holding_key buyer security) r.taker
-  pub giver : Stands rs (holding_key seller security) r.giver
+pub record Parts (rs : List Row) (buyer seller security : ℕ) (r : TradeRegisters) : Type 0 where
+  pub buyer_cash : Stands rs (cash_key buyer) r.buyer_cash
+  pub seller_cash : Stands rs (cash_key seller) r.seller_cash
+  pub buyer_holding : Stands rs (holding_key buyer security) r.buyer_holding
+  pub seller_holding : Stands rs (holding_key seller security) r.seller_holding
 
-module _ (rs : List Row) (buyer seller security : ℕ) (r : Four) where
-  abbrev Four-is : Result Held Refusal → Result Held Refusal → Result Held Refusal → Result Held Refusal → Type 0
-  Four-is a b c d = and_then a (λ x. and_then b (λ y. and_then c (λ z. and_then d (λ w. Ok (record { payer = x; payee = y; taker = z; giver = w }))))) ≡ Ok r
+module _ (rs : List Row) (buyer seller security : ℕ) (r : TradeRegisters) where
+  abbrev TradeRegisters-is : Result OpenRegister Refusal → Result OpenRegister Refusal → Result OpenRegister Refusal → Result OpenRegister Refusal → Type 0
+  TradeRegisters-is a b c d = and_then a (λ x. and_then b (λ y. and_then c (λ z. and_then d (λ w. Ok (record { buyer_cash = x; seller_cash = y; buyer_holding = z; seller_holding = w }))))) ≡ Ok r
 
-  by_four : (a b c d : Result Held Refusal) → held_at rs (cash_key buyer) ≡ a → held_at rs (cash_key seller) ≡ b → held_at rs (holding_key buyer security) ≡ c → held_at rs (holding_key seller security) ≡ d → Four-is a b c d → Parts rs buyer seller security r
+  by_four : (a b c d : Result OpenRegister Refusal) → register_at rs (cash_key buyer) ≡ a → register_at rs (cash_key seller) ≡ b → register_at rs (holding_key buyer security) ≡ c → register_at rs (holding_key seller security) ≡ d → TradeRegisters-is a b c d → Parts rs buyer seller security r
   by_four (Err x) b c d p q s t e = no_case (cc)
   by_four (Ok w) (Err x) c d p q s t e = no_case (cc)
   by_four (Ok w) (Ok x) (Err y) d p q s t e = no_case (cc)
   by_four (Ok w) (Ok x) (Ok y) (Err z) p q s t e = no_case (cc)
   by_four (Ok w) (Ok x) (Ok y) (Ok z) p q s t e =
-      let f : ◌≡◌ {A = Four} (record { payer = w; payee = x; taker = y; giver = z }) r = cc in
+      let f : ◌≡◌ {A = TradeRegisters} (record { buyer_cash = w; seller_cash = x; buyer_holding = y; seller_holding = z }) r = cc in
       record {
-        payer = held_stands rs (cash_key buyer) r.payer (p ∙ ap (λ (v : Four). Ok v.payer) f);
-        payee = held_stands rs (cash_key seller) r.payee (q ∙ ap (λ (v : Four). Ok v.payee) f);
-        taker = held_stands rs (holding_key buyer security) r.taker (s ∙ ap (λ (v : Four). Ok v.taker) f);
-        giver = held_stands rs (holding_key seller security) r.giver (t ∙ ap (λ (v : Four). Ok v.giver) f);
+        buyer_cash = held_stands rs (cash_key buyer) r.buyer_cash (p ∙ ap (λ (v : TradeRegisters). Ok v.buyer_cash) f);
+        seller_cash = held_stands rs (cash_key seller) r.seller_cash (q ∙ ap (λ (v : TradeRegisters). Ok v.seller_cash) f);
+        buyer_holding = held_stands rs (holding_key buyer security) r.buyer_holding (s ∙ ap (λ (v : TradeRegisters). Ok v.buyer_holding) f);
+        seller_holding = held_stands rs (holding_key seller security) r.seller_holding (t ∙ ap (λ (v : TradeRegisters). Ok v.seller_holding) f);
       }
 
-  pub four_parts : four_of rs buyer seller security ≡ Ok r → Parts rs buyer seller security r
-  unfolding four_of
-  four_parts e = by_four (held_at rs (cash_key buyer)) (held_at rs (cash_key seller)) (held_at rs (holding_key buyer security)) (held_at rs (holding_key seller security)) refl refl refl refl e
+  pub four_parts : trade_registers_of rs buyer seller security ≡ Ok r → Parts rs buyer seller security r
+  unfolding trade_registers_of
+  four_parts e = by_four (register_at rs (cash_key buyer)) (register_at rs (cash_key seller)) (register_at rs (holding_key buyer security)) (register_at rs (holding_key seller security)) refl refl refl refl e
 
   -- they lie apart, since the accounts differ, and stand as they were read
   pub four_apart : Parts rs buyer seller security r → (buyer ≡ seller → ⊥) → (q value block : ℕ) → Apart (moves_of r q value block)
   four_apart s ne q value block =
-      let ab = held_apart rs _ _ _ _ s.payer s.payee (λ x y. ne y) in
-      let ac = held_apart rs _ _ _ _ s.payer s.taker (λ x y. omega arith) in
-      let ad = held_apart rs _ _ _ _ s.payer s.giver (λ x y. omega arith) in
-      let bc = held_apart rs _ _ _ _ s.payee s.taker (λ x y. omega arith) in
-      let bd = held_apart rs _ _ _ _ s.payee s.giver (λ x y. omega arith) in
-      let cd = held_apart rs _ _ _ _ s.taker s.giver (λ x y. ne y) in
+      let ab = held_apart rs _ _ _ _ s.buyer_cash s.seller_cash (λ x y. ne y) in
+      let ac = held_apart rs _ _ _ _ s.buyer_cash s.buyer_holding (λ x y. omega arith) in
+      let ad = held_apart rs _ _ _ _ s.buyer_cash s.seller_holding (λ x y. omega arith) in
+      let bc = held_apart rs _ _ _ _ s.seller_cash s.buyer_holding (λ x y. omega arith) in
+      let bd = held_apart rs _ _ _ _ s.seller_cash s.seller_holding (λ x y. omega arith) in
+      let cd = held_apart rs _ _ _ _ s.buyer_holding s.seller_holding (λ x y. ne y) in
       any_two (map (λ (m : Move). m.place) (moves_of r q value block)) ((ab, (ac, (ad, tt))), ((bc, (bd, tt)), ((cd, tt), (tt, tt))))
 
   pub four_standing : Parts rs buyer seller security r → (q value block : ℕ) → Standing rs (moves_of r q value block)
   four_standing s q value block =
       All-from_recursion (λ (m : Move). FiguresAt rs m.place m.before) (moves_of r q value block)
-      (held_figures rs _ _ s.payer, (held_figures rs _ _ s.payee, (held_figures rs _ _ s.taker, (held_figures rs _ _ s.giver, tt))))
+      (held_figures rs _ _ s.buyer_cash, (held_figures rs _ _ s.seller_cash, (held_figures rs _ _ s.buyer_holding, (held_figures rs _ _ s.seller_holding, tt))))

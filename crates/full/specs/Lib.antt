@@ -1,4 +1,10 @@
+pub mod Orders
+pub mod Terms
 pub mod Blocks
+pub mod Checks
+pub mod Views
+pub mod State
+pub mod OpenRegisters
 pub mod Calls
-pub mod Plans
 pub mod Trades
+pub mod Plans

@@ -1,41 +1,30 @@
 //! The calls of Level One, but for the trade.
 
-ghost use Rattle.std.specs.Prelude.{◌≡◌, ◌≤◌, OnOk, IfOk};
-ghost use Rattle.orders.specs.declared.refusal.Refusal.TheVariants.{BadValue};
-ghost use Rattle.orders.specs.State.{live_of};
-ghost use Rattle.orders.specs.Steps.{or_refuse};
-ghost use Rattle.full.specs.Plans.{begin, Done};
-ghost use Rattle.full.specs.Blocks.{FiguresAt};
-ghost use Rattle.full.specs.Calls.{admit_of, opening_key, open_of, asset_key, credit_of, cover_at, announce_of, withdraw_of};
+ghost use Rattle.std.specs.Prelude.{◌≡◌, IfOk, OnErr};
+ghost use Rattle.plans.specs.Plans.{Done, answer_of};
+ghost use Rattle.registers.specs.Changes.{OnlyAsked};
+ghost use Rattle.full.specs.Orders.{live_of};
+ghost use Rattle.full.specs.Views.{placed_as};
+ghost use Rattle.full.specs.OpenRegisters.{FiguresAt, floor_of};
+ghost use Rattle.full.specs.Calls.{admit_of, enter_of, open_of, asset_key, credit_of, cover_at, placed_of, announce_of, withdraw_of};
 
+use crate::announcement::Announcement;
 use crate::engine::Engine;
-use crate::held::Held;
-use crate::registers_of::{block_on, credit_on, floor, held, put_held, release_on};
-use orders::blocks::{cash_key, holding_key};
-use orders::checks::ready;
-use orders::order::{Book, Mode, Order};
-use orders::ranges::{amount as amount_of, code_ok, limit_ok, security_ok};
-use orders::refusal::Refusal;
-use orders::security::{Securities, Security};
-use orders::terms::{Announcement, Opening};
+use crate::keys::{cash_key, holding_key};
+use crate::mode::Mode;
+use crate::open_register::{OpenRegister, open_register, put_register};
+use crate::opening::Opening;
+use crate::order::Order;
+use crate::placed_order::PlacedOrder;
+use crate::ranges::{amount as amount_of, code_ok, security_ok};
+use crate::security::Security;
+use plans::refusal::Refusal;
+use registers::figures::Figures;
+use registers::key::Key;
+use registers::kind::RegisterKind;
 use registers::ranges::Ratio;
-use registers::row::{Figures, Key, Kind, Row};
+use registers::row::Row;
 use registers::store::Store;
-
-#[tactic(auto, unfolding(crate::specs::Calls::opening_key))]
-fn opening_key(o: Opening) -> Result<Key, Refusal>
-    ensures value { result ≡ or_refuse (opening_key o) BadValue }
-    ensures bound { OnOk result (o.limit ≤ 100000000000000) }
-{
-    if !code_ok(o.code) || !limit_ok(o.limit) || o.margin != 0 {
-        return Err(Refusal::BadValue);
-    }
-    match Kind::try_from(o.kind) {
-        Ok(Kind::Cash) if o.security == 0 => Ok(cash_key(o.code)),
-        Ok(Kind::Holding) if security_ok(o.security) => Ok(holding_key(o.code, o.security)),
-        _ => Err(Refusal::BadValue),
-    }
-}
 
 fn asset_key(code: u32, security: u16) -> Key
     ensures { result ≡ asset_key code security }
@@ -47,41 +36,23 @@ fn asset_key(code: u32, security: u16) -> Key
     }
 }
 
+/// What a block on a register has to leave of its limit: the reserve for cash, and nothing elsewhere.
+fn floor(reserve: u16, key: Key) -> u16
+    ensures { result ≡ floor_of reserve key }
+{
+    if key.is(RegisterKind::Cash) {
+        reserve
+    } else {
+        0
+    }
+}
+
 impl<S: Store> Engine<S> {
-    /// An engine over a store, with a reserve in kopecks that announced purchases leave on each cash
-    /// register. Nothing is admitted, ordered or traded yet; the store's rows are as they stood.
-    pub fn new(store: S, reserve: u16) -> Engine<S>
-        ensures store { result.store ≡ store }
-        ensures state { result.state ≡ begin (S.Store.rows store) (S.Store.capacity store) reserve }
-    {
-        Engine {
-            store,
-            reserve,
-            securities: Securities::new(),
-            book: Book::new(),
-            trade: 0,
-        }
-    }
-
-    /// Ends the engine, and hands its store out again.
-    pub fn into_store(self) -> S
-        ensures { result ≡ self.store }
-    {
-        let Engine {
-            store,
-            reserve: _,
-            securities: _,
-            book: _,
-            trade: _,
-        } = self;
-        store
-    }
-
     /// Admits a security under a market risk ratio; answers the count of securities. Refuses values
     /// outside their ranges (5), a security admitted already (3) and a 65th (4).
     #[tactic(auto, using(crate::proofs::Signed::counted), unfolding(crate::specs::Calls::admit_of))]
     pub fn admit(&mut self, security: u16, ratio: u16) -> Result<i64, Refusal>
-        ensures { Done (admit_of self.old.state security ratio) self.old.state self.new.state result }
+        ensures { Done S.Store.made (admit_of self.old.state security ratio) self.old self.new result }
     {
         if !security_ok(security) {
             return Err(Refusal::BadValue);
@@ -98,28 +69,37 @@ impl<S: Store> Engine<S> {
         Ok(self.securities.count() as i64)
     }
 
+    /// Enters a register into the store; answers the count of rows. Refuses a register open already (1)
+    /// and a full store (2).
+    #[tactic(auto, unfolding(crate::specs::Calls::enter_of))]
+    pub fn enter(&mut self, row: Row) -> Result<i64, Refusal>
+        ensures { Done S.Store.made (enter_of self.old.state row) self.old self.new result }
+    {
+        if self.store.find(row.key).is_some() {
+            return Err(Refusal::RegisterOpen);
+        }
+        let count = self.store.count();
+        self.store.add(row)?;
+        Ok(count as i64 + 1)
+    }
+
     /// Opens a register of kind 1 or 2; answers the count of rows. Refuses values outside their
     /// ranges (5), a holding of a security that is not admitted (7), a register open already (1) and
     /// a full store (2).
     #[tactic(auto, unfolding(crate::specs::Calls::open_of))]
-    pub fn open(&mut self, o: Opening) -> Result<i64, Refusal>
-        ensures { Done (open_of self.old.state o) self.old.state self.new.state result }
+    pub fn open(&mut self, opening: Opening) -> Result<i64, Refusal>
+        ensures { Done S.Store.made (open_of self.old.state opening) self.old self.new result }
     {
-        let key = opening_key(o)?;
-        if !key.is(Kind::Cash) && self.securities.ratio(key.security).is_none() {
+        let key = opening.key()?;
+        if !key.is(RegisterKind::Cash) && self.securities.ratio(key.security).is_none() {
             return Err(Refusal::NotAdmitted);
         }
-        if self.store.find(key).is_some() {
-            return Err(Refusal::RegisterOpen);
-        }
-        let count = self.store.count();
         let figures = Figures {
-            limit: o.limit as i64,
+            limit: opening.limit as i64,
             blocked: 0,
             third: 0,
         };
-        self.store.add(Row { key, figures })?;
-        Ok(count as i64 + 1)
+        self.enter(Row { key, figures })
     }
 
     /// Raises the limit of an account's cash (security 0) or holding; answers the new limit. Refuses
@@ -127,15 +107,16 @@ impl<S: Store> Engine<S> {
     /// and figures that would leave it (26).
     #[tactic(auto, using(crate::proofs::Signed::signed), unfolding(crate::specs::Calls::credit_of))]
     pub fn credit(&mut self, code: u32, security: u16, amount: u64) -> Result<i64, Refusal>
-        ensures { Done (credit_of self.old.state code security amount) self.old.state self.new.state result }
+        ensures { Done S.Store.made (credit_of self.old.state code security amount) self.old self.new
+            result }
     {
         if !code_ok(code) || security != 0 && !security_ok(security) {
             return Err(Refusal::BadValue);
         }
         let amount = amount_of(amount)?;
-        let register = held(&mut self.store, asset_key(code, security))?;
-        let credited = credit_on(register, amount)?;
-        put_held(&mut self.store, register, credited.figures);
+        let register = open_register(&mut self.store, asset_key(code, security))?;
+        let credited = register.credit(amount)?;
+        put_register(&mut self.store, register, credited.figures);
         Ok(credited.figures.limit)
     }
 }
@@ -143,15 +124,14 @@ impl<S: Store> Engine<S> {
 /// The register that covers an order with full collateral: its account's cash or holding. Refuses (6)
 /// where one of the two is not open; the store is as it stood.
 #[tactic(auto, unfolding(crate::specs::Calls::cover_at))]
-fn cover<S: Store>(store: &mut S, order: Order) -> Result<Held, Refusal>
+fn cover<S: Store>(store: &mut S, order: Order) -> Result<OpenRegister, Refusal>
     ensures answer { result ≡ cover_at (S.Store.rows store.old) (live_of order) }
     ensures stands { IfOk result (λ h. FiguresAt (S.Store.rows store.old) h.place h.figures) }
-    ensures kept { S.Store.rows store.new ≡ S.Store.rows store.old }
-    ensures roomy { S.Store.capacity store.new ≡ S.Store.capacity store.old }
+    ensures asked { OnlyAsked S.Store.rows S.Store.capacity S.Store.made store.old store.new }
 {
-    let cash = held(store, cash_key(order.account))?;
-    let holding = held(store, holding_key(order.account, order.security))?;
-    if order.block_key().is(Kind::Cash) {
+    let cash = open_register(store, cash_key(order.account))?;
+    let holding = open_register(store, holding_key(order.account, order.security))?;
+    if order.block_key().is(RegisterKind::Cash) {
         Ok(cash)
     } else {
         Ok(holding)
@@ -164,18 +144,32 @@ impl<S: Store> Engine<S> {
     /// full book (9), an account whose cash or holding is not open (6), figures out of range on the
     /// register of the block (25), and an order that it does not cover (10).
     #[tactic(auto, unfolding(crate::specs::Calls::announce_of))]
-    pub fn announce(&mut self, a: Announcement) -> Result<i64, Refusal>
-        ensures { Done (announce_of self.old.state a) self.old.state self.new.state result }
+    pub fn announce(&mut self, announcement: Announcement) -> Result<i64, Refusal>
+        ensures { Done S.Store.made (announce_of self.old.state announcement) self.old self.new result }
     {
-        if Mode::try_from(a.mode)? != Mode::Full {
+        if announcement.mode != Mode::Full as u8 {
             return Err(Refusal::BadValue);
         }
-        let ready = ready(&self.securities, &self.book, a)?;
+        let ready = announcement.ready(&self.securities, &self.book)?;
         let register = cover(&mut self.store, ready.order)?;
+        self.place(ready, register)
+    }
+
+    /// Blocks a ready order's amount on the register that covers it, as it was read and still stands, and
+    /// takes the order into the book; answers the block. Refuses figures out of range on the register (25),
+    /// and an order that it does not cover (10).
+    #[tactic(auto, unfolding(crate::specs::Calls::placed_of))]
+    pub fn place(&mut self, ready: PlacedOrder, register: OpenRegister) -> Result<i64, Refusal>
+        ensures answer { result ≡ answer_of (placed_of self.old.state (placed_as ready) register) }
+        ensures refused { OnErr result (self.new ≡ self.old) }
+        ensures done { FiguresAt self.old.state.rows register.place register.figures →
+            Done S.Store.made (placed_of self.old.state (placed_as ready) register) self.old
+            self.new result }
+    {
         let amount = ready.order.block(ready.order.rest);
-        let floor = floor(self.reserve, ready.order.block_key());
-        let blocked = block_on(register, amount, floor)?;
-        put_held(&mut self.store, register, blocked.figures);
+        let floor = floor(self.settings.reserve, ready.order.block_key());
+        let blocked = register.block(amount, floor)?;
+        put_register(&mut self.store, register, blocked.figures);
         self.book.add(ready.place, ready.order);
         Ok(amount.into())
     }
@@ -185,13 +179,13 @@ impl<S: Store> Engine<S> {
     /// open (6), figures out of range (25) and figures that would leave it (26).
     #[tactic(auto, unfolding(crate::specs::Calls::withdraw_of))]
     pub fn withdraw(&mut self, number: u32) -> Result<i64, Refusal>
-        ensures { Done (withdraw_of self.old.state number) self.old.state self.new.state result }
+        ensures { Done S.Store.made (withdraw_of self.old.state number) self.old self.new result }
     {
         let found = self.book.found(number)?;
         let amount = found.order.block(found.order.rest);
-        let register = held(&mut self.store, found.order.block_key())?;
-        let released = release_on(register, amount)?;
-        put_held(&mut self.store, register, released.figures);
+        let register = open_register(&mut self.store, found.order.block_key())?;
+        let released = register.release(amount)?;
+        put_register(&mut self.store, register, released.figures);
         self.book.free(found.place);
         Ok(amount.into())
     }

@@ -1,22 +1,14 @@
-//! What a trade moves.
+//! What a call moves.
 
-use crate::held::Held;
-use registers::row::Figures;
+ghost use Rattle.std.specs.Prelude.{◌≤◌};
+ghost use Rattle.registers.specs.declared.store.TheConstants.{MOST_ROWS};
 
-/// A register that a call moves: its place, its figures before, and where they end.
+use crate::register_move::Move;
+
+/// The moves of a call, in the order in which the rules give them. Several may be of one register: each
+/// then starts where the one before it ends.
 #[derive(Clone, Copy, PartialEq, Eq, Debug)]
-pub struct Move {
-    pub place: usize,
-    pub before: Figures,
-    pub after: Figures,
-}
-
-/// The registers of a trade with full collateral: the buyer's and the seller's cash, and the buyer's
-/// and the seller's holding.
-#[derive(Clone, Copy, PartialEq, Eq, Debug)]
-pub struct Four {
-    pub payer: Held,
-    pub payee: Held,
-    pub taker: Held,
-    pub giver: Held,
+pub struct Moves<const N: usize> {
+    pub list: [Move; N],
+    ghost few: { N ≤ MOST_ROWS },
 }

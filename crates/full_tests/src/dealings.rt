@@ -5,10 +5,12 @@ use crate::support::{
     RESERVE, SECURITY, admit, buy, cash, check, check_over_table, check_rows, credit, figures,
     holding, make, opened, order, sell, trade, withdraw,
 };
+use full::announcement::Announcement;
+use full::call::Call;
 use full::engine::Engine;
-use full_runs::call::Call;
-use orders::order::{Mode, Side};
-use orders::terms::Announcement;
+use full::mode::Mode;
+use full::settings::Settings;
+use full::side::Side;
 use registers::image;
 use registers::image::ImageStore;
 use registers::row::BLANK;
@@ -19,7 +21,7 @@ use std::process::Abort;
 /// Announces a purchase of 2 at 50, which costs 1, under a reserve and a limit.
 fn check_purchased(rt: &impl Abort, reserve: u16, limit: u64, expected: Result<i64, u8>) {
     let mut table = [BLANK; 2];
-    let mut engine = Engine::new(RowStore::new(&mut table), reserve);
+    let mut engine = Engine::new(RowStore::new(&mut table), Settings { reserve });
     let steps = [
         (admit(SECURITY, 1_000), Ok(1)),
         (cash(701, limit), Ok(1)),
@@ -73,7 +75,7 @@ fn announcements_that_are_refused(rt: HostRuntime) {
 #[test]
 fn a_blocked_figure_falls_below_zero(rt: HostRuntime) {
     let mut table = [BLANK; 4];
-    let mut engine = Engine::new(RowStore::new(&mut table), RESERVE);
+    let mut engine = Engine::new(RowStore::new(&mut table), Settings { reserve: RESERVE });
     make(&rt, &mut engine, &opened(201, 10));
     let orders = [(buy(1, 701, 2, 50), Ok(1)), (sell(2, 802, 2, 50), Ok(2))];
     make(&rt, &mut engine, &orders);
@@ -115,7 +117,7 @@ fn a_block_is_released_at_its_own_price(rt: HostRuntime) {
 
 /// Deals for a whole day over a store, and hands the store out.
 fn whole_day<S: Store>(rt: &impl Abort, store: S) -> S {
-    let mut engine = Engine::new(store, RESERVE);
+    let mut engine = Engine::new(store, Settings { reserve: RESERVE });
     make(rt, &mut engine, &prepared());
     make(rt, &mut engine, &finishing());
     engine.into_store()
@@ -142,9 +144,9 @@ fn the_same_day_over_both_stores(rt: HostRuntime) {
 fn an_image_outlives_its_engine(rt: HostRuntime) {
     let mut bytes = [0; 162];
     check(&rt, image::format(&mut bytes), Ok(()));
-    let mut engine = Engine::new(ImageStore::new(&mut bytes), RESERVE);
+    let mut engine = Engine::new(ImageStore::new(&mut bytes), Settings { reserve: RESERVE });
     make(&rt, &mut engine, &prepared());
-    let mut engine = Engine::new(engine.into_store(), RESERVE);
+    let mut engine = Engine::new(engine.into_store(), Settings { reserve: RESERVE });
     let steps = [
         (withdraw(1), Err(11)),
         (credit(701, 0, 1), Ok(10_102)),

@@ -3,9 +3,10 @@
 use crate::support::{
     SECURITY, Step, Stored, admit, buy, cash, figures, holding, order, sell, withdraw,
 };
-use full_runs::call::Call;
-use orders::order::Side;
-use orders::terms::{Announcement, Deal};
+use full::announcement::Announcement;
+use full::call::Call;
+use full::deal::Deal;
+use full::side::Side;
 
 /// The buyer's account.
 pub const BUYER: u32 = 701;

@@ -1,9 +1,10 @@
 //! Openings: a full store, and what is refused.
 
 use crate::support::{SECURITY, admit, cash, check_over_table, credit, figures, holding, opening};
-use full_runs::call::Call;
-use orders::terms::Opening;
-use registers::row::{BLANK, Kind};
+use full::call::Call;
+use full::opening::Opening;
+use registers::kind::RegisterKind;
+use registers::row::BLANK;
 
 #[test]
 fn a_store_with_room_for_one(rt: HostRuntime) {
@@ -22,7 +23,7 @@ fn a_store_with_room_for_one(rt: HostRuntime) {
 
 #[test]
 fn openings_at_the_ends_of_their_ranges(rt: HostRuntime) {
-    let good = opening(Kind::Cash, 701, 0, 0);
+    let good = opening(RegisterKind::Cash, 701, 0, 0);
     let secured = Opening {
         security: SECURITY,
         ..good
@@ -31,7 +32,7 @@ fn openings_at_the_ends_of_their_ranges(rt: HostRuntime) {
         (Call::Open(Opening { kind: 0, ..good }), Err(5)),
         (
             Call::Open(Opening {
-                kind: Kind::Participant as u8,
+                kind: RegisterKind::Participant as u8,
                 ..good
             }),
             Err(5),

@@ -5,10 +5,12 @@ use crate::support::{
     trade, withdraw,
 };
 use full::engine::Engine;
-use orders::blocks::{cash_key, holding_key};
+use full::keys::{cash_key, holding_key};
+use full::settings::Settings;
+use registers::figures::Figures;
 use registers::image;
 use registers::image::ImageStore;
-use registers::row::{Figures, Row};
+use registers::row::Row;
 use registers::store::Store;
 use std::process::Abort;
 
@@ -29,7 +31,7 @@ fn check_over_image(
     for row in rows {
         check(rt, store.add(*row), Ok(()));
     }
-    let mut engine = Engine::new(store, RESERVE);
+    let mut engine = Engine::new(store, Settings { reserve: RESERVE });
     make(rt, &mut engine, steps);
     let mut store = engine.into_store();
     check_rows(rt, &mut store, left);
@@ -82,15 +84,21 @@ fn amounts_at_the_ends_of_their_range(rt: HostRuntime) {
 
 /// Makes calls where the image holds the cash of a buyer (701) and a seller (802) as given, and a
 /// holding of 10 for the seller.
-fn check_paid(rt: &impl Abort, payer: Figures, payee: Figures, steps: &[Step], left: &[Stored]) {
+fn check_paid(
+    rt: &impl Abort,
+    buyer_cash: Figures,
+    seller_cash: Figures,
+    steps: &[Step],
+    left: &[Stored],
+) {
     let rows = [
         Row {
             key: cash_key(701),
-            figures: payer,
+            figures: buyer_cash,
         },
         Row {
             key: cash_key(802),
-            figures: payee,
+            figures: seller_cash,
         },
         Row {
             key: holding_key(701, SECURITY),

@@ -1,11 +1,17 @@
 //! What the tests share: calls in short, and the loops that make calls and look at rows.
 
+use full::announcement::Announcement;
+use full::call::Call;
+use full::deal::Deal;
 use full::engine::Engine;
-use full_runs::call::Call;
-use full_runs::runs::carry_out;
-use orders::order::{Mode, Side};
-use orders::terms::{Announcement, Deal, Opening};
-use registers::row::{Figures, Kind, Row};
+use full::mode::Mode;
+use full::opening::Opening;
+use full::settings::Settings;
+use full::side::Side;
+use plans::machine::Machine;
+use registers::figures::Figures;
+use registers::kind::RegisterKind;
+use registers::row::Row;
 use registers::store::Store;
 use registers::table::RowStore;
 use std::fmt::Debug;
@@ -32,7 +38,7 @@ pub(crate) fn check<T: Copy + PartialEq + Debug>(rt: &impl Abort, found: T, expe
 /// Makes calls in their order, and compares each answer with what is expected.
 pub(crate) fn make<S: Store>(rt: &impl Abort, engine: &mut Engine<S>, steps: &[Step]) {
     for (place, (call, expected)) in steps.iter().enumerate() {
-        let answer = carry_out(engine, *call).map_err(|refusal| refusal.number());
+        let answer = engine.carry_out(*call).map_err(|refusal| refusal.number());
         assert_eq!(rt; answer, *expected, "call {place}");
     }
 }
@@ -53,7 +59,7 @@ pub(crate) fn figures(limit: i64, blocked: i64, third: i64) -> Figures {
     }
 }
 
-pub(crate) fn opening(kind: Kind, code: u32, security: u16, limit: u64) -> Opening {
+pub(crate) fn opening(kind: RegisterKind, code: u32, security: u16, limit: u64) -> Opening {
     Opening {
         kind: kind as u8,
         code,
@@ -91,12 +97,12 @@ pub(crate) fn admit(security: u16, ratio: u16) -> Call {
 
 /// Opens an account's cash.
 pub(crate) fn cash(code: u32, limit: u64) -> Call {
-    Call::Open(opening(Kind::Cash, code, 0, limit))
+    Call::Open(opening(RegisterKind::Cash, code, 0, limit))
 }
 
 /// Opens an account's holding.
 pub(crate) fn holding(code: u32, security: u16, limit: u64) -> Call {
-    Call::Open(opening(Kind::Holding, code, security, limit))
+    Call::Open(opening(RegisterKind::Holding, code, security, limit))
 }
 
 pub(crate) fn credit(code: u32, security: u16, amount: u64) -> Call {
@@ -152,7 +158,7 @@ pub(crate) fn check_over_table(
     left: &[Stored],
 ) {
     let room = table.len();
-    let mut engine = Engine::new(RowStore::new(table), RESERVE);
+    let mut engine = Engine::new(RowStore::new(table), Settings { reserve: RESERVE });
     make(rt, &mut engine, opened);
     make(rt, &mut engine, steps);
     let mut store = engine.into_store();

@@ -5,13 +5,14 @@ use crate::support::{
     withdraw,
 };
 use full::engine::Engine;
+use full::settings::Settings;
 use registers::row::BLANK;
 use registers::table::RowStore;
 
 #[test]
 fn the_65th_security_is_refused(rt: HostRuntime) {
     let mut table = [BLANK; 1];
-    let mut engine = Engine::new(RowStore::new(&mut table), RESERVE);
+    let mut engine = Engine::new(RowStore::new(&mut table), Settings { reserve: RESERVE });
     // the numbers themselves are gone through, here and below
     for security in 1..=64 {
         make(
@@ -47,7 +48,7 @@ fn securities_and_ratios_at_the_ends_of_their_ranges(rt: HostRuntime) {
 #[test]
 fn the_257th_order_is_refused(rt: HostRuntime) {
     let mut table = [BLANK; 2];
-    let mut engine = Engine::new(RowStore::new(&mut table), RESERVE);
+    let mut engine = Engine::new(RowStore::new(&mut table), Settings { reserve: RESERVE });
     let opened = [
         (admit(SECURITY, 1_000), Ok(1)),
         (cash(701, 0), Ok(1)),

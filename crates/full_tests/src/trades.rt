@@ -3,8 +3,8 @@
 
 use crate::market::{GOOD, finished, finishing, prepared};
 use crate::support::check_over_table;
-use full_runs::call::Call;
-use orders::terms::Deal;
+use full::call::Call;
+use full::deal::Deal;
 use registers::row::BLANK;
 use std::process::Abort;
 

@@ -1,9 +1,9 @@
-//! The list of calls that is run.
+//! Level One's list of calls.
 
-use full_runs::call::Call;
-use orders::order::Side;
+use full::call::Call;
+use full::side::Side;
 use printing::calls::{SECURITY, announce, open, trade};
-use registers::row::Kind;
+use registers::kind::RegisterKind;
 
 /// Two registers each of a buyer and a seller; three orders; trades that leave a rest and trades that
 /// do not; a withdrawal; and calls that are refused.
@@ -13,10 +13,10 @@ pub(crate) fn dealings() -> [Call; 16] {
             security: SECURITY,
             ratio: 1000,
         },
-        open(Kind::Cash, 701, 0, 201),
-        open(Kind::Holding, 701, 5, 0),
-        open(Kind::Cash, 802, 0, 0),
-        open(Kind::Holding, 802, 5, 1000),
+        open(RegisterKind::Cash, 701, 0, 201),
+        open(RegisterKind::Holding, 701, 5, 0),
+        open(RegisterKind::Cash, 802, 0, 0),
+        open(RegisterKind::Holding, 802, 5, 1000),
         announce(Side::Buy, 1, 701, 2, 50),
         announce(Side::Sell, 2, 802, 102, 50),
         trade(1, 1, 1, 50),

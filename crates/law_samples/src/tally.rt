@@ -1,93 +1,63 @@
-//! A second account of a run, kept from the calls and their outcomes alone.
+//! A second account of a run of either level, kept from the calls and their outcomes alone.
 
-use full_runs::call::Call;
-use orders::blocks::{cash_key, holding_key};
-use orders::order::Side;
-use orders::terms::Announcement;
-use registers::amounts::money;
-use registers::ranges::{Price, Quantity};
-use registers::row::{Key, Kind};
+use crate::notes::{Note, Opened, cost};
+use full::announcement::Announcement;
+use full::call::Call as FullCall;
+use full::deal::Deal;
+use full::opening::Opening;
+use partial::call::Call;
+use partial::obligation::Obligation;
+use partial::stage::Stage;
+use registers::key::Key;
 use std::alloc::{AllocError, Global};
 use std::collections::BTreeMap;
 
-/// An announced order, what was traded of it and what its withdrawal gave back.
-#[derive(Clone, Copy)]
-pub struct Note {
-    pub announced: Announcement,
-    pub traded: u32,
-    pub back: u32,
-}
-
-/// A register with its key, its blocked figure when it was opened, and how often a trade left a rest there.
-#[derive(Clone, Copy)]
-pub struct Opened {
-    pub key: Key,
-    pub blocked: i64,
-    pub times: u32,
-}
-
-/// The opened registers by their keys, and the announced orders by their numbers.
+/// The ratios by their securities, the opened registers by their keys, the announced orders by their numbers, and
+/// the obligations by the numbers of the trades that left them.
 #[derive(Drop)]
 pub struct Tally {
+    pub ratios: BTreeMap<u16, u16>,
     pub opened: BTreeMap<Key, Opened>,
     pub notes: BTreeMap<u32, Note>,
-}
-
-// as short in the tests of `registers`: no crate is for these alone
-
-/// What a quantity costs at a price, or `None` where one lies outside its range, as a rest of 0 does.
-fn cost(quantity: u32, price: u32) -> Option<u64> {
-    Some(money(Quantity::new(quantity)?, Price::new(price)?).units)
-}
-
-impl Note {
-    /// The quantity less the traded parts, less what was given back.
-    pub(crate) fn rest(self) -> u32 {
-        self.announced
-            .quantity
-            .saturating_sub(self.traded)
-            .saturating_sub(self.back)
-    }
-
-    /// The register that the order's block lies on.
-    pub(crate) fn key(self) -> Key {
-        match self.announced.side {
-            Side::Buy => cash_key(self.announced.account),
-            Side::Sell => holding_key(self.announced.account, self.announced.security),
-        }
-    }
-
-    /// The block of the order's rest.
-    pub(crate) fn block(self) -> u64 {
-        match self.announced.side {
-            Side::Buy => cost(self.rest(), self.announced.price).unwrap_or(0),
-            Side::Sell => u64::from(self.rest()),
-        }
-    }
+    pub obligations: BTreeMap<u32, Obligation>,
 }
 
 impl Tally {
     /// The tally of no calls.
     pub(crate) fn new(alloc: Global) -> Tally {
         Tally {
+            ratios: BTreeMap::new(alloc),
             opened: BTreeMap::new(alloc),
             notes: BTreeMap::new(alloc),
+            obligations: BTreeMap::new(alloc),
         }
     }
 
-    fn note_opening(&mut self, key: Key) -> Result<(), AllocError> {
+    fn note_ratio(&mut self, security: u16, ratio: u16) -> Result<(), AllocError> {
+        self.ratios.insert(security, ratio)?;
+        Ok(())
+    }
+
+    fn note_opening(&mut self, opening: Opening) -> Result<(), AllocError> {
+        let key = Key {
+            kind: opening.kind,
+            code: opening.code,
+            security: opening.security,
+        };
         let opened = Opened {
             key,
-            blocked: 0,
-            times: 0,
+            blocked: opening.margin,
+            trades_leaving_rest: 0,
         };
         self.opened.insert(key, opened)?;
         Ok(())
     }
 
     fn note_order(&mut self, announced: Announcement) -> Result<(), AllocError> {
+        let ratio = self.ratios.get(&announced.security).copied().unwrap_or(0);
         let note = Note {
             announced,
+            ratio,
             traded: 0,
             back: 0,
         };
@@ -95,9 +65,9 @@ impl Tally {
         Ok(())
     }
 
-    fn note_time(&mut self, key: Key) {
+    fn note_trade_leaving_rest(&mut self, key: Key) {
         if let Some(opened) = self.opened.get_mut(&key) {
-            opened.times = opened.times.saturating_add(1);
+            opened.trades_leaving_rest = opened.trades_leaving_rest.saturating_add(1);
         }
     }
 
@@ -106,9 +76,36 @@ impl Tally {
             note.traded = note.traded.saturating_add(quantity);
             let after = *note;
             if after.rest() > 0 {
-                self.note_time(after.key());
+                self.note_trade_leaving_rest(after.key());
             }
         }
+    }
+
+    /// What a trade leaves owed: nothing between orders with full collateral.
+    fn owed_by(&self, deal: Deal) -> Option<Obligation> {
+        let buy = *self.notes.get(&deal.buy)?;
+        let sell = *self.notes.get(&deal.sell)?;
+        if !buy.is_partial() {
+            return None;
+        }
+        Some(Obligation {
+            number: deal.number,
+            seller: sell.announced.account,
+            buyer: buy.announced.account,
+            security: buy.announced.security,
+            quantity: deal.quantity,
+            money: cost(deal.quantity, deal.price)?,
+            stage: Stage::BothOwed,
+        })
+    }
+
+    fn note_trade(&mut self, deal: Deal) -> Result<(), AllocError> {
+        if let Some(obligation) = self.owed_by(deal) {
+            self.obligations.insert(deal.number, obligation)?;
+        }
+        self.note_traded(deal.buy, deal.quantity);
+        self.note_traded(deal.sell, deal.quantity);
+        Ok(())
     }
 
     fn note_withdrawn(&mut self, number: u32) {
@@ -117,26 +114,26 @@ impl Tally {
         }
     }
 
-    /// Notes an accepted call.
-    pub(crate) fn enter(&mut self, call: Call) -> Result<(), AllocError> {
+    fn enter_full(&mut self, call: FullCall) -> Result<(), AllocError> {
         // a match: calls are values, and each kind is noted otherwise
         match call {
-            Call::Open(opening) => self.note_opening(Key {
-                kind: opening.kind,
-                code: opening.code,
-                security: opening.security,
-            }),
-            Call::Announce(announced) => self.note_order(announced),
-            Call::Withdraw { number } => {
+            FullCall::Admit { security, ratio } => self.note_ratio(security, ratio),
+            FullCall::Open(opening) => self.note_opening(opening),
+            FullCall::Credit { .. } => Ok(()),
+            FullCall::Announce(announced) => self.note_order(announced),
+            FullCall::Withdraw { number } => {
                 self.note_withdrawn(number);
                 Ok(())
             }
-            Call::Trade(deal) => {
-                self.note_traded(deal.buy, deal.quantity);
-                self.note_traded(deal.sell, deal.quantity);
-                Ok(())
-            }
-            Call::Admit { .. } | Call::Credit { .. } => Ok(()),
+            FullCall::Trade(deal) => self.note_trade(deal),
+        }
+    }
+
+    /// Notes an accepted call.
+    pub(crate) fn enter(&mut self, call: Call) -> Result<(), AllocError> {
+        match call {
+            Call::Full(call) => self.enter_full(call),
+            Call::Post { .. } | Call::Debit { .. } => Ok(()),
         }
     }
 
@@ -151,16 +148,5 @@ impl Tally {
     /// The register of a key as it was opened.
     pub(crate) fn opened_as(&self, key: Key) -> Option<Opened> {
         self.opened.get(&key).copied()
-    }
-}
-
-impl Opened {
-    /// By how many kopecks the blocked figure may be off: none for securities.
-    pub(crate) fn allowance(self) -> u32 {
-        if self.key.is(Kind::Cash) {
-            self.times
-        } else {
-            0
-        }
     }
 }

@@ -1,13 +1,14 @@
 -- The text of a call and of its outcome.
-use Rattle.std.specs.Prelude.{ℕ, List, ◌++◌, ℤ, Ok, Err, codes, decimal, Result}
+use Rattle.std.specs.Prelude.{ℕ, if◌then◌else◌, List, [], ◌++◌, ℤ, Ok, Err, codes, decimal, Result, ◌==◌}
 use Rattle.std.specs.Fmt.{signed_decimal}
-use Rattle.orders.specs.declared.order.Side.{Side}
-use Rattle.orders.specs.declared.order.Side.TheVariants.{Buy, Sell}
-use Rattle.orders.specs.declared.refusal.Refusal.{Refusal}
-use Rattle.full_runs.specs.declared.call.Call.{Call}
-use Rattle.full_runs.specs.declared.call.Call.TheVariants.{Admit, Open, Credit, Announce, Withdraw, Trade}
-use Rattle.dayfile.specs.declared.refusal.LineRefusal.TheVariants.{Engine}
-use Rattle.dayfile.specs.Texts.{refusal_text}
+use Rattle.plans.specs.declared.refusal.Refusal.{Refusal}
+use Rattle.plans.specs.Refusals.{refusal_text}
+use Rattle.full.specs.declared.side.Side.{Side}
+use Rattle.full.specs.declared.side.Side.TheVariants.{Buy, Sell}
+use Rattle.full.specs.declared.call.Call.{Call}
+use Rattle.full.specs.declared.call.Call.TheVariants.{Admit, Open, Credit, Announce, Withdraw, Trade}
+use Rattle.partial.specs.declared.call.Call.{Call as PartialCall}
+use Rattle.partial.specs.declared.call.Call.TheVariants.{Full, Post, Debit}
 
 -- the word for a side
 abbrev pub side_text : Side → List ℕ
@@ -23,7 +24,28 @@ call_text (Announce a) = side_text a.side ++ (decimal a.number ++ (codes " " ++ 
 call_text (Withdraw number) = codes "withdraw " ++ decimal number
 call_text (Trade d) = codes "trade " ++ (decimal d.number ++ (codes " of " ++ (decimal d.buy ++ (codes " and " ++ (decimal d.sell ++ (codes ", " ++ (decimal d.quantity ++ (codes " at " ++ decimal d.price))))))))
 
+-- what a call says of collateral beyond that: a margin that is not 0, and a mode that is not full
+abbrev pub margin_text : ℕ → List ℕ
+margin_text margin = if margin == 0 then [] else codes " margin " ++ decimal margin
+
+abbrev pub mode_text : ℕ → List ℕ
+mode_text mode = if mode == 1 then [] else codes " mode " ++ decimal mode
+
+abbrev pub collateral_text : Call → List ℕ
+collateral_text (Admit security ratio) = []
+collateral_text (Open o) = margin_text o.margin
+collateral_text (Credit code security amount) = []
+collateral_text (Announce a) = mode_text a.mode
+collateral_text (Withdraw number) = []
+collateral_text (Trade d) = []
+
+-- a call of Level Two in short: one of Level One's with its margin and its mode
+abbrev pub partial_call_text : PartialCall → List ℕ
+partial_call_text (Full c) = call_text c ++ collateral_text c
+partial_call_text (Post participant amount) = codes "post " ++ (decimal participant ++ (codes " " ++ decimal amount))
+partial_call_text (Debit participant amount) = codes "debit " ++ (decimal participant ++ (codes " " ++ decimal amount))
+
 -- an outcome: ok and the answer, or no and the refusal
-abbrev pub told_text : Result ℤ Refusal → List ℕ
-told_text (Ok answer) = codes "ok " ++ signed_decimal answer
-told_text (Err refusal) = codes "no " ++ refusal_text (Engine refusal)
+abbrev pub outcome_text : Result ℤ Refusal → List ℕ
+outcome_text (Ok answer) = codes "ok " ++ signed_decimal answer
+outcome_text (Err refusal) = codes "no " ++ refusal_text refusal

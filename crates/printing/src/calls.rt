@@ -1,19 +1,22 @@
 //! The calls of the sample dealings, in short.
 
 ghost use Rattle.std.specs.Prelude.{◌≡◌};
-ghost use Rattle.full_runs.specs.declared.call.Call.TheVariants.{Open, Announce, Trade};
 ghost use Rattle.registers.specs.Registers.{kind_number};
+ghost use Rattle.full.specs.declared.call.Call.TheVariants.{Open, Announce, Trade};
 
-use full_runs::call::Call;
-use orders::order::{Mode, Side};
-use orders::terms::{Announcement, Deal, Opening};
-use registers::row::Kind;
+use full::announcement::Announcement;
+use full::call::Call;
+use full::deal::Deal;
+use full::mode::Mode;
+use full::opening::Opening;
+use full::side::Side;
+use registers::kind::RegisterKind;
 
 /// The security that the sample dealings trade.
 pub const SECURITY: u16 = 5;
 
 /// The opening of a register, without a margin.
-pub fn open(kind: Kind, code: u32, security: u16, limit: u64) -> Call
+pub fn open(kind: RegisterKind, code: u32, security: u16, limit: u64) -> Call
     ensures { result ≡ Open (record { kind = kind_number kind; code = code; security = security; limit = limit; margin = 0 }) }
 {
     Call::Open(Opening {

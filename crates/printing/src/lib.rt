@@ -3,4 +3,4 @@
 
 pub mod calls;
 pub mod shown;
-pub mod texts;
+pub mod shown_partial;

@@ -1,21 +1,28 @@
 -- The rows of an image, and what a write into one of them, or past the last, leaves.
-use Rattle.std.proofs.Common.{◌≡◌, ℕ, zero, suc, ◌+◌, ◌-◌, ◌*◌, ◌/◌, ◌^◌, ◌<◌, ◌≤◌, min, Bool, true, false, cond, ltb, ◌⊎◌, List, [], ◌∷◌, ◌++◌, length, get_or, take, drop, ℤ, Some, Ok, Err, Result, sym, refl, ap, ◌∙◌, inl, inr, ⊎_elim, arith, length-append, w64, SFits, to_z, of_z, le-ltb, lt-ltb}
+use Rattle.std.proofs.Common.{◌≡◌, ℕ, zero, suc, ◌+◌, ◌-◌, ◌*◌, ◌/◌, ◌^◌, ◌<◌, ◌≤◌, min, Bool, true, false, cond, ltb, ◌⊎◌, List, [], ◌∷◌, ◌++◌, length, get_or, take, drop, ℤ, Some, None, Ok, Err, Result, sym, refl, ap, ◌∙◌, inl, inr, ⊎_elim, arith, length-append, w64, SFits, to_z, of_z, le-ltb, lt-ltb}
 use mir.Facts.{Fits-of_z}
-use Rattle.std.proofs.lemmas.List.{take_at, drop_at, take_all, append_assoc, get_or-take}
+use Rattle.std.proofs.lemmas.List.{length-map, take_at, drop_at, take_all, append_assoc, get_or-take}
 use Rattle.std.proofs.lemmas.Int.{to_z-of_z}
 use Rattle.std.proofs.lemmas.Bool.{cases_order}
 use Rattle.std.specs.List.{slice_get}
+use Rattle.std.specs.Option.{option_map}
+use Rattle.std.proofs.lemmas.Option.{slice_get-map, slice_get_past}
+use Rattle.seek.specs.Place.{place_of}
+use Rattle.seek.proofs.Places.{place_of_map}
+use Rattle.registers.specs.Registers.{same_key}
 use Rattle.byte_fields.specs.Fields.{be, bytes_of, part, spliced, signed_be, signed_bytes_of, put_at}
 use Rattle.byte_fields.proofs.Widths.{be-bytes_of, length-spliced, part_same, part_apart, part_inside, spliced-spliced, written_within}
-use Rattle.registers.specs.declared.row.Key.{Key}
-use Rattle.registers.specs.declared.row.Figures.{Figures}
+use Rattle.registers.specs.declared.key.Key.{Key}
+use Rattle.registers.specs.declared.figures.Figures.{Figures}
 use Rattle.registers.specs.declared.row.Row.{Row}
 use Rattle.registers.specs.declared.fault.StoreFault.{StoreFault}
 use Rattle.registers.specs.declared.fault.StoreFault.TheVariants.{Full, NotOpen}
-use Rattle.registers.specs.Stores.{put_row, put_answer, add_row, add_answer, with_figures}
+use Rattle.registers.specs.Stores.{put_row, put_answer, add_row, add_answer, place_for, with_figures}
 use Rattle.registers.proofs.Rows.{put_accepted, put_refused, put_row_past, add_accepted, add_refused}
 use Rattle.registers.specs.Bounds.{length-image_rows, room_small}
-use Rattle.registers.specs.Images.{marked, room_of, count_of, key_at, figures_at, row_at, rows_from, image_rows, key_bytes, figure_bytes, row_bytes, row_place, put_bytes, add_bytes}
+use Rattle.registers.specs.Images.{marked, room_of, count_of, key_at, figures_at, row_at, rows_from, image_rows, image_keys, key_bytes, figure_bytes, row_bytes, row_place, put_bytes, add_bytes, change_bytes}
+use Rattle.registers.specs.Changes as changes
+use Rattle.registers.specs.Changes.{changed, put_changes, add_changes}
 
 -- keys, figures and rows are their parts
 pub key_of_parts : {a b c a' b' c' : ℕ} → a ≡ a' → b ≡ b' → c ≡ c' → ◌≡◌ {A = Key} (record { kind = a; code = b; security = c }) (record { kind = a'; code = b'; security = c' })
@@ -139,6 +146,19 @@ nth_rows_from (suc n) zero at s h = let e : at ≡ at + 0 * 31 = omega arith in 
 nth_rows_from (suc n) (suc i) at s h =
     let e : at + 31 + i * 31 ≡ at + suc i * 31 = omega arith in
     nth_rows_from n i (at + 31) s (omega arith) ∙ ap (λ (a : ℕ). Some (row_at a s)) e
+
+-- the keys of an image, one by one, and where one is sought
+pub length-image_keys : (s : List ℕ) → count_of s ≡ length (image_keys s)
+length-image_keys s = sym (length-map (image_rows s) (λ (r : Row). r.key) ∙ length-image_rows s)
+
+pub nth_key : (s : List ℕ) (i : ℕ) → i < count_of s → slice_get (image_keys s) i ≡ Some (key_at (row_place i) s)
+nth_key s i h = slice_get-map (λ (r : Row). r.key) (image_rows s) i ∙ ap (option_map (λ (r : Row). r.key)) (nth_rows_from (count_of s) i 7 s h)
+
+pub no_key : (s : List ℕ) (i : ℕ) → count_of s ≤ i → slice_get (image_keys s) i ≡ None
+no_key s i h = slice_get_past (image_keys s) i (omega (arith, length-image_keys s))
+
+pub place_of_key : (s : List ℕ) (k : Key) → place_of (λ (l : Key). same_key l k) (image_keys s) ≡ place_for k (image_rows s)
+place_of_key s k = place_of_map (λ (r : Row). r.key) (λ (l : Key). same_key l k) (image_rows s)
 
 module _ (s t : List ℕ) where
   -- row j from a place on is the same in both
@@ -317,3 +337,18 @@ add_not s r h =
     let a = add_refused (image_rows s) (room_of s) r (rw length-image_rows h) in
     let e : ltb (count_of s) (room_of s) ≡ false = le-ltb (count_of s) (room_of s) h in
     record { answered = a.0; rows = a.1; room = refl; bytes = rw e }
+
+-- the bytes of a put and of an add are those of the change that is carried out, if one is
+pub put_changed : (s : List ℕ) (i : ℕ) (f : Figures) → put_bytes s i f ≡ changed change_bytes s (put_changes (image_rows s) i f)
+put_changed s i f = by (ltb i (count_of s)) refl ∙ ap (λ (n : ℕ). changed change_bytes s (cond (ltb i n) (changes.Put i f ∷ []) [])) (sym (length-image_rows s))
+  where
+    by : (b : Bool) → ltb i (count_of s) ≡ b → put_bytes s i f ≡ changed change_bytes s (cond b (changes.Put i f ∷ []) [])
+    by true e = refl
+    by false e = rw e
+
+pub add_changed : (s : List ℕ) (r : Row) → add_bytes s r ≡ changed change_bytes s (add_changes (image_rows s) (room_of s) r)
+add_changed s r = by (ltb (count_of s) (room_of s)) refl ∙ ap (λ (n : ℕ). changed change_bytes s (cond (ltb n (room_of s)) (changes.Add r ∷ []) [])) (sym (length-image_rows s))
+  where
+    by : (b : Bool) → ltb (count_of s) (room_of s) ≡ b → add_bytes s r ≡ changed change_bytes s (cond b (changes.Add r ∷ []) [])
+    by true e = refl
+    by false e = rw e

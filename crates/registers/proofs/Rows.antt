@@ -1,12 +1,13 @@
 -- What a put and an add do to a list of rows, for every store.
 use Rattle.std.proofs.Common.{◌≡◌, ℕ, zero, suc, ◌+◌, ◌<◌, ◌≤◌, List, [], ◌∷◌, ◌++◌, length, get_or, take, set, Ok, Err, refl, ap, ◌∙◌, arith, length-set, le-ltb, lt-ltb}
 use Rattle.std.proofs.lemmas.List.{take_more_set}
-use Rattle.registers.specs.declared.row.Figures.{Figures}
+use Rattle.registers.specs.declared.figures.Figures.{Figures}
 use Rattle.registers.specs.declared.row.Row.{Row}
 use Rattle.registers.specs.declared.fault.StoreFault.TheVariants.{Full, NotOpen}
 use Rattle.registers.specs.Stores.{put_row, put_answer, add_row, add_answer, with_figures}
 use Rattle.registers.specs.Bounds.{length-table_rows}
-use Rattle.registers.specs.Tables.{table_room, table_rows}
+use Rattle.registers.specs.Tables.{table_room, table_rows, lent, change_table}
+use Rattle.registers.specs.Changes.{changed, put_changes, add_changes}
 
 pub length-put_row : (rs : List Row) (i : ℕ) (f : Figures) → length (put_row rs i f) ≡ length rs
 length-put_row [] i f = refl
@@ -50,3 +51,19 @@ pub table_added : (t : List Row) (filled : ℕ) (r : Row) → filled < table_roo
 table_added t filled r h =
     let a = add_accepted (table_rows t filled) (table_room t) r (omega (arith, length-table_rows t filled (omega arith))) in
     (a.0, take_more_set t filled r (omega arith) ∙ a.1)
+
+-- the whole table after a put and after an add that are accepted
+put_whole : (t : List Row) (i : ℕ) (d : Row) (f : Figures) → i < length t → set t i (with_figures (get_or t i d) f) ≡ put_row t i f
+put_whole [] i d f h = absurd (omega arith)
+put_whole (r ∷ t) zero d f h = refl
+put_whole (r ∷ t) (suc i) d f h = ap (λ (x : List Row). r ∷ x) (put_whole t i d f (omega arith))
+
+pub put_changed : (t : List Row) (filled i : ℕ) (d : Row) (f : Figures) → i < filled → filled ≤ table_room t → lent (set t i (with_figures (get_or t i d) f)) filled ≡ changed change_table (lent t filled) (put_changes (table_rows t filled) i f)
+put_changed t filled i d f h l =
+    let e = lt-ltb i (length (table_rows t filled)) (omega (arith, length-table_rows t filled l)) in
+    rw e (ap (λ (x : List Row). lent x filled) (put_whole t i d f (omega arith)))
+
+pub add_changed : (t : List Row) (filled : ℕ) (r : Row) → filled < table_room t → lent (set t filled r) (filled + 1) ≡ changed change_table (lent t filled) (add_changes (table_rows t filled) (table_room t) r)
+add_changed t filled r h =
+    let e = lt-ltb (length (table_rows t filled)) (table_room t) (omega (arith, length-table_rows t filled (omega arith))) in
+    rw e

@@ -1,5 +1,5 @@
 -- Amounts: one rounding over a divisor, and what it is used for.
-use Rattle.std.specs.Prelude.{◌≡◌, ℕ, ◌+◌, ◌*◌, ◌/◌, ◌<◌, ◌≤◌, cond, ◌&&◌, Some, None, Option, nat_le}
+use Rattle.std.specs.Prelude.{◌≡◌, ℕ, ◌+◌, ◌*◌, ◌/◌, ◌<◌, ◌≤◌, if◌then◌else◌, ◌&&◌, Some, None, Option, nat_le}
 
 -- n ÷ d to the nearest whole number, a half upwards: the whole part of n ÷ d + 1/2
 unfoldable pub rounded : ℕ → ℕ → ℕ
@@ -15,7 +15,7 @@ risk_of q p k = rounded 1000000 (q * p * k)
 
 -- a number that lies in a range, or none
 abbrev pub ranged : ℕ → ℕ → ℕ → Option ℕ
-ranged least most n = cond (nat_le least n && nat_le n most) (Some n) None
+ranged least most n = if nat_le least n && nat_le n most then Some n else None
 
 -- two parts round to within one of what their sum rounds to
 abbrev pub RoundedNear : Type 0

@@ -1,6 +1,7 @@
 -- How many rows the two stores hold: never more than there is room for, and 4,096 at most.
-use Rattle.std.proofs.Common.{◌≡◌, ℕ, zero, suc, ◌+◌, ◌≤◌, min, Bool, true, false, cond, List, length, refl, ap, ◌∙◌, arith, length-take}
+use Rattle.std.proofs.Common.{◌≡◌, ℕ, zero, suc, ◌+◌, ◌≤◌, min, Bool, true, false, if◌then◌else◌, List, length, refl, ap, ◌∙◌, arith, length-take}
 use Rattle.registers.specs.declared.row.Row.{Row}
+use Rattle.registers.specs.declared.store.TheConstants.{MOST_ROWS}
 use Rattle.registers.specs.Images.{marked, room_of, count_of, rows_from, image_rows}
 use Rattle.registers.specs.Tables.{table_room, table_rows}
 
@@ -11,18 +12,18 @@ length-rows_from (suc n) at s = ap suc (length-rows_from n (at + 31) s)
 pub length-image_rows : (s : List ℕ) → length (image_rows s) ≡ count_of s
 length-image_rows s = length-rows_from (count_of s) 7 s
 
-few : (b : Bool) (n : ℕ) → cond b (min n 4096) 0 ≤ 4096
+few : (b : Bool) (n : ℕ) → (if b then min n MOST_ROWS else 0) ≤ MOST_ROWS
 few true n = omega arith
 few false n = omega arith
 
-pub room_small : (s : List ℕ) → room_of s ≤ 4096
+pub room_small : (s : List ℕ) → room_of s ≤ MOST_ROWS
 room_small s = few (marked s) _
 
-pub image_bounded : (s : List ℕ) → (length (image_rows s) ≤ room_of s) × (room_of s ≤ 4096)
+pub image_bounded : (s : List ℕ) → (length (image_rows s) ≤ room_of s) × (room_of s ≤ MOST_ROWS)
 image_bounded s = (omega (arith, length-image_rows s), room_small s)
 
 pub length-table_rows : (t : List Row) (filled : ℕ) → filled ≤ table_room t → length (table_rows t filled) ≡ filled
 length-table_rows t filled h = length-take filled t ∙ omega arith
 
-pub table_bounded : (t : List Row) (filled : ℕ) → filled ≤ table_room t → (length (table_rows t filled) ≤ table_room t) × (table_room t ≤ 4096)
+pub table_bounded : (t : List Row) (filled : ℕ) → filled ≤ table_room t → (length (table_rows t filled) ≤ table_room t) × (table_room t ≤ MOST_ROWS)
 table_bounded t filled h = (omega (arith, length-table_rows t filled h), omega arith)

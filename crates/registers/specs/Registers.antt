@@ -1,9 +1,9 @@
 -- Registers: when figures are in range, when keys are the same, and the numbers of faults.
-use Rattle.std.specs.Prelude.{ℕ, Bool, cond, Some, None, Option, ◌&&◌, ℤ, pos, negsuc, ◌+ℤ◌, ◌≤ℤ◌, ◌==◌, int_le}
-use Rattle.registers.specs.declared.row.Key.{Key}
-use Rattle.registers.specs.declared.row.Figures.{Figures}
-use Rattle.registers.specs.declared.row.Kind.{Kind}
-use Rattle.registers.specs.declared.row.Kind.TheVariants.{Cash, Holding, Participant}
+use Rattle.std.specs.Prelude.{ℕ, Bool, if◌then◌else◌, Some, None, Option, ◌&&◌, ℤ, pos, negsuc, ◌+ℤ◌, ◌≤ℤ◌, ◌==◌, int_le}
+use Rattle.registers.specs.declared.key.Key.{Key}
+use Rattle.registers.specs.declared.figures.Figures.{Figures}
+use Rattle.registers.specs.declared.kind.RegisterKind.{RegisterKind}
+use Rattle.registers.specs.declared.kind.RegisterKind.TheVariants.{Cash, Holding, Participant}
 use Rattle.registers.specs.declared.fault.StoreFault.{StoreFault}
 use Rattle.registers.specs.declared.fault.StoreFault.TheVariants.{Full, NotOpen, OutOfRange}
 
@@ -30,13 +30,13 @@ abbrev pub same_key : Key → Key → Bool
 same_key a b = a.kind == b.kind && (a.code == b.code && a.security == b.security)
 
 -- the number of each kind of registers, and the kind of a number
-abbrev pub kind_number : Kind → ℕ
+abbrev pub kind_number : RegisterKind → ℕ
 kind_number Cash = 1
 kind_number Holding = 2
 kind_number Participant = 3
 
-abbrev pub kind_of : ℕ → Option Kind
-kind_of n = cond (n == 1) (Some Cash) (cond (n == 2) (Some Holding) (cond (n == 3) (Some Participant) None))
+abbrev pub kind_of : ℕ → Option RegisterKind
+kind_of n = if n == 1 then Some Cash else (if n == 2 then Some Holding else (if n == 3 then Some Participant else None))
 
 -- the refusal number of each fault
 abbrev pub fault_number : StoreFault → ℕ

@@ -1,9 +1,37 @@
-//! Amounts of money: what a quantity costs at a price, and the collateral that its risk asks for.
+//! Amounts: what a quantity costs at a price, and the collateral that its risk asks for.
 
-ghost use Rattle.std.specs.Prelude.{◌≡◌, ◌*◌, ◌≤◌};
+ghost use Rattle.std.specs.Prelude.{◌≡◌, ◌*◌, ◌≤◌, pos};
 ghost use Rattle.registers.specs.Amounts.{money_of, risk_of, rounded, RoundedNear, RoundedMonotone, RoundedNone};
 
-use crate::ranges::{Amount, Price, Quantity, Ratio};
+use crate::ranges::{Price, Quantity, Ratio};
+
+/// Kopecks, or pieces of a security, that a call moves: 0 to 10^16, so that a figure in range and
+/// any few amounts add up within 64 bits.
+#[derive(Clone, Copy, PartialEq, Eq, Debug)]
+pub struct Amount {
+    pub units: u64,
+    ghost most: { units ≤ 10000000000000000 },
+}
+
+/// As many pieces as a quantity counts.
+impl From<Quantity> for Amount {
+    ghost from_gives = { λ quantity r. r.units ≡ quantity.value };
+
+    fn from(quantity: Quantity) -> Amount {
+        Amount {
+            units: u64::from(quantity.value),
+        }
+    }
+}
+
+/// The units of an amount, as figures count them.
+impl From<Amount> for i64 {
+    ghost from_gives = { λ amount r. r ≡ pos amount.units };
+
+    fn from(amount: Amount) -> i64 {
+        amount.units as i64
+    }
+}
 
 /// The kopecks that `quantity` costs at `price`: their product by 100, rounded once, a half upwards.
 pub fn money(quantity: Quantity, price: Price) -> Amount

@@ -1,16 +1,52 @@
 //! What a store refuses.
 
+ghost use Rattle.std.specs.Prelude.{◌≡◌, Some};
+ghost use Rattle.registers.specs.Registers.{fault_number};
+ghost use Rattle.registers.specs.Texts.{fault_text};
+
+use std::error::Error;
+use std::fmt;
+
 /// A store's fault. Each has its refusal number.
 #[derive(Clone, Copy, PartialEq, Eq, Debug)]
 pub enum StoreFault {
-    /// 2: the count of rows equals the room.
+    /// The count of rows equals the room.
     Full = 2,
-    /// 6: there is no such register.
+    /// There is no such register.
     NotOpen = 6,
-    /// 25: figures that were read are out of range.
+    /// Figures that were read are out of range.
     OutOfRange = 25,
 }
+
+impl StoreFault {
+    /// The refusal number of the fault.
+    pub fn number(self) -> u8
+        ensures { result ≡ fault_number self }
+    {
+        self as u8
+    }
+}
+
+/// The refusal number, and S for the store.
+impl fmt::Display for StoreFault {
+    ghost output = { λ e. Some (fault_text e) };
+
+    fn fmt<W: fmt::Write>(&self, f: &mut fmt::Formatter<W>) -> fmt::Result {
+        let number = self.number();
+        write!(f, "{number} S")
+    }
+}
+
+impl Error for StoreFault {}
 
 /// Bytes are too short for the header of an image.
 #[derive(Clone, Copy, PartialEq, Eq, Debug)]
 pub struct TooShort;
+
+impl fmt::Display for TooShort {
+    fn fmt<W: fmt::Write>(&self, f: &mut fmt::Formatter<W>) -> fmt::Result {
+        write!(f, "too short for the header of an image")
+    }
+}
+
+impl Error for TooShort {}

@@ -1,27 +1,34 @@
-//! Tests on rows, and the numbers of faults.
+//! The figures of registers.
 
-ghost use Rattle.std.specs.Prelude.{◌≡◌, true, if◌then◌else◌, Ok, Err, ◌==◌};
-ghost use Rattle.std.specs.Option.{ok_or};
+ghost use Rattle.std.specs.Prelude.{◌≡◌, true, if◌then◌else◌, Ok, Err, Some};
 ghost use Rattle.std.specs.Result.{result_map_both};
 ghost use Rattle.registers.specs.declared.fault.StoreFault.TheVariants.{OutOfRange};
-ghost use Rattle.registers.specs.Registers.{bounded, in_range, same_key, fault_number, kind_number, kind_of, Bounded, Within};
+ghost use Rattle.registers.specs.Registers.{bounded, in_range, Bounded, Within};
+ghost use Rattle.registers.specs.Texts.{figures_text};
 
 use crate::fault::StoreFault;
 use crate::in_range::InRange;
-use crate::row::{Figures, Key, Kind, Row};
-use seek::Keyed;
+use std::fmt;
 
-/// The greatest value of a figure, and with a minus the least.
-pub const MOST: i64 = 1_000_000_000_000_000;
+/// The greatest value of a figure in range, and with a minus the least.
+pub const MOST_FIGURE: i64 = 1_000_000_000_000_000;
 
-// not `contains`: tried, and over signed numbers the proof did not close; `bounds`, here and below, is what the answer is
-// to whoever makes an `InRange` of it
+/// A register's figures, in kopecks or in pieces of its security. The third is the delivery figure in
+/// registers of cash and of holdings, the collateral in a participant's.
+#[derive(Clone, Copy, PartialEq, Eq, Debug)]
+pub struct Figures {
+    pub limit: i64,
+    pub blocked: i64,
+    pub third: i64,
+}
+
+// `bounds`, here and below, is what the answer is to whoever makes an `InRange` of it
 #[tactic(auto, unfolding(crate::specs::Registers::bounded))]
 fn is_bounded(figure: i64) -> bool
     ensures answer { result ≡ bounded figure }
     ensures bounds { result ≡ true → Within figure }
 {
-    -MOST <= figure && figure <= MOST
+    -MOST_FIGURE <= figure && figure <= MOST_FIGURE
 }
 
 impl Figures {
@@ -40,7 +47,8 @@ impl Figures {
 
     /// The figures, known to be in range. Refuses (25) figures that are not.
     pub fn checked(self) -> Result<InRange, StoreFault>
-        ensures { result_map_both (λ r. r.figures) (λ e. e) result ≡ (if in_range self then Ok self else Err OutOfRange) }
+        ensures { result_map_both (λ r. r.figures) (λ e. e) result
+            ≡ (if in_range self then Ok self else Err OutOfRange) }
     {
         if !self.in_range() {
             return Err(StoreFault::OutOfRange);
@@ -49,44 +57,16 @@ impl Figures {
     }
 }
 
-impl StoreFault {
-    /// The refusal number of the fault.
-    pub fn number(self) -> u8
-        ensures { result ≡ fault_number self }
-    {
-        self as u8
-    }
-}
+/// Limit, blocked figure and third figure.
+impl fmt::Display for Figures {
+    ghost output = { λ f. Some (figures_text f) };
 
-impl Key {
-    /// Whether the key is one of a kind of registers.
-    pub fn is(self, kind: Kind) -> bool
-        ensures { result ≡ (self.kind == kind_number kind) }
-    {
-        self.kind == kind as u8
-    }
-}
-
-/// The kind that a number stands for. Refuses a number that is none's, and gives it back.
-impl TryFrom<u8> for Kind {
-    type Error = u8;
-
-    ghost try_from_gives = { λ number r. r ≡ ok_or (kind_of number) number };
-
-    fn try_from(number: u8) -> Result<Kind, u8> {
-        match number {
-            1 => Ok(Kind::Cash),
-            2 => Ok(Kind::Holding),
-            3 => Ok(Kind::Participant),
-            _ => Err(number),
-        }
-    }
-}
-
-impl Keyed<Key> for Row {
-    ghost bears = { λ r k. same_key r.key k };
-
-    fn is_at(&self, key: Key) -> bool {
-        self.key == key
+    fn fmt<W: fmt::Write>(&self, f: &mut fmt::Formatter<W>) -> fmt::Result {
+        let Figures {
+            limit,
+            blocked,
+            third,
+        } = *self;
+        write!(f, "{limit} {blocked} {third}")
     }
 }

@@ -2,15 +2,18 @@
 
 ghost use Rattle.std.specs.Prelude.{◌≡◌, ◌+◌, ◌-◌, ◌*◌, ◌/◌, ◌<◌, ◌≤◌, min, [], length, is_ok, Some, OnOk, nat_le};
 ghost use Rattle.std.specs.List.{slice_get};
-ghost use Rattle.byte_fields.specs.Fields.{spliced};
+ghost use Rattle.byte_fields.specs.Fields.{part, signed_be, spliced};
 ghost use Rattle.registers.specs.Stores.{place_for, put_row, put_answer, add_row, add_answer};
 ghost use Rattle.registers.specs.Bounds.{image_bounded};
-ghost use Rattle.registers.specs.Images.{key_at, figures_at, row_at, marked, room_of, count_of, image_rows, key_bytes, figure_bytes, row_bytes, put_bytes, add_bytes, formatted};
+ghost use Rattle.registers.specs.Changes.{Led, led-none, led-joined};
+ghost use Rattle.registers.specs.Images.{key_at, figures_at, row_at, marked, room_of, count_of, image_rows, image_keys, key_bytes, figure_bytes, row_bytes, put_bytes, add_bytes, change_bytes, formatted};
 
 use crate::fault::{StoreFault, TooShort};
-use crate::row::{Figures, Key, Row};
-use crate::store::Store;
-use byte_fields::{read, write};
+use crate::figures::Figures;
+use crate::key::Key;
+use crate::row::Row;
+use crate::store::{MOST_ROWS, Store};
+use byte_fields::{Field, read, write};
 use seek::Table;
 
 /// Bytes before the first row: mark, version and count.
@@ -29,7 +32,7 @@ fn room_of(bytes: &[u8]) -> usize
     ensures { result ≡ room_of bytes.now }
 {
     if bytes.len() >= HEADER && is_marked(bytes) {
-        ((bytes.len() - HEADER) / ROW).min(4096)
+        ((bytes.len() - HEADER) / ROW).min(MOST_ROWS)
     } else {
         0
     }
@@ -43,7 +46,7 @@ fn count_of(bytes: &[u8]) -> usize
 }
 
 // that so many bytes lie behind a place is said at each function on a row: a place alone has no such fact, and a
-// row is defined by its offsets in the whole image
+// row is defined by its offsets in the whole image; so no field of a row is read by `read`, which tests that again
 
 #[tactic(auto, unfolding(crate::specs::Images::key_at))]
 fn key_at(bytes: &[u8], at: usize) -> Option<Key>
@@ -51,10 +54,17 @@ fn key_at(bytes: &[u8], at: usize) -> Option<Key>
     ensures { result ≡ Some (key_at at bytes.now) }
 {
     Some(Key {
-        kind: read(bytes, at)?,
-        code: read(bytes, at + 1)?,
-        security: read(bytes, at + 5)?,
+        kind: u8::from_bytes(&bytes[at..at + 1])?,
+        code: u32::from_bytes(&bytes[at + 1..at + 5])?,
+        security: u16::from_bytes(&bytes[at + 5..at + 7])?,
     })
+}
+
+fn figure_at(bytes: &[u8], at: usize) -> Option<i64>
+    requires { at + 8 ≤ length bytes.now }
+    ensures { result ≡ Some (signed_be (part 8 at bytes.now)) }
+{
+    i64::from_bytes(&bytes[at..at + 8])
 }
 
 #[tactic(auto, using(crate::proofs::Signed::signed), unfolding(crate::specs::Images::figures_at))]
@@ -63,9 +73,9 @@ fn figures_at(bytes: &[u8], at: usize) -> Option<Figures>
     ensures { result ≡ Some (figures_at at bytes.now) }
 {
     Some(Figures {
-        limit: read(bytes, at)?,
-        blocked: read(bytes, at + 8)?,
-        third: read(bytes, at + 16)?,
+        limit: figure_at(bytes, at)?,
+        blocked: figure_at(bytes, at + 8)?,
+        third: figure_at(bytes, at + 16)?,
     })
 }
 
@@ -88,29 +98,35 @@ fn row_in(bytes: &[u8], place: usize) -> Option<Row>
     row_at(bytes, HEADER + place * ROW)
 }
 
+// a search compares keys: it counts once, and reads no figures
 #[derive(Clone, Copy)]
-struct ImageRows<'a> {
+struct ImageKeys<'a> {
     bytes: &'a [u8],
+    count: usize,
+    ghost counted: { count ≡ count_of bytes.now },
 }
 
-impl Table<Row> for ImageRows<'_> {
-    ghost records = { λ s. image_rows s.bytes.now };
+impl Table<Key> for ImageKeys<'_> {
+    ghost records = { λ s. image_keys s.bytes.now };
 
-    #[tactic(auto, using(crate::proofs::Signed::counted))]
     fn count(&self) -> usize {
-        count_of(self.bytes)
+        self.count
     }
 
-    fn record(&self, place: usize) -> Option<Row> {
-        row_in(self.bytes, place)
+    fn record(&self, place: usize) -> Option<Key> {
+        if place >= self.count {
+            return None;
+        }
+        key_at(self.bytes, HEADER + place * ROW)
     }
 }
 
 fn find_in(bytes: &[u8], key: Key) -> Option<usize>
     ensures { result ≡ place_for key (image_rows bytes.now) }
 {
-    let rows = ImageRows { bytes };
-    seek::find_in(&rows, key)
+    let count = count_of(bytes);
+    let keys = ImageKeys { bytes, count };
+    seek::find_in(&keys, key)
 }
 
 // what `write` answers is known here and below: the bytes of the field are required
@@ -144,10 +160,10 @@ fn write_row(bytes: &mut [u8], at: usize, row: Row)
 /// Writes the header of an empty store into `bytes`; every byte past the header stays as it stood.
 /// Refuses bytes too short for the 7 of it; they are then all as they stood.
 pub fn format(bytes: &mut [u8]) -> Result<(), TooShort>
-    ensures answer { is_ok result ≡ nat_le 7 (length bytes.old) }
+    ensures answer { is_ok result ≡ nat_le HEADER (length bytes.old) }
     ensures after { bytes.new ≡ formatted bytes.old }
     ensures empty { OnOk result (image_rows bytes.new ≡ []) }
-    ensures room { OnOk result (room_of bytes.new ≡ min ((length bytes.old - 7) / 31) 4096) }
+    ensures room { OnOk result (room_of bytes.new ≡ min ((length bytes.old - HEADER) / ROW) MOST_ROWS) }
 {
     if bytes.len() < HEADER {
         return Err(TooShort);
@@ -161,7 +177,7 @@ pub fn format(bytes: &mut [u8]) -> Result<(), TooShort>
 fn put_in(bytes: &mut [u8], place: usize, figures: Figures) -> Result<(), StoreFault>
     ensures answer { result ≡ put_answer (image_rows bytes.old) place }
     ensures after { image_rows bytes.new ≡ put_row (image_rows bytes.old) place figures }
-    ensures roomy { room_of bytes.new ≡ room_of bytes.old }
+    ensures same_room { room_of bytes.new ≡ room_of bytes.old }
     ensures bytes { bytes.new ≡ put_bytes bytes.old place figures }
 {
     if place >= count_of(bytes) {
@@ -174,7 +190,7 @@ fn put_in(bytes: &mut [u8], place: usize, figures: Figures) -> Result<(), StoreF
 fn add_in(bytes: &mut [u8], row: Row) -> Result<(), StoreFault>
     ensures answer { result ≡ add_answer (image_rows bytes.old) (room_of bytes.old) }
     ensures after { image_rows bytes.new ≡ add_row (image_rows bytes.old) (room_of bytes.old) row }
-    ensures roomy { room_of bytes.new ≡ room_of bytes.old }
+    ensures same_room { room_of bytes.new ≡ room_of bytes.old }
     ensures bytes { bytes.new ≡ add_bytes bytes.old row }
 {
     let count = count_of(bytes);
@@ -211,64 +227,44 @@ impl<'a> ImageStore<'a> {
     }
 }
 
-// which bytes a call leaves, and that they stay lent, is said at each call: it is of the store before and after
 impl Store for ImageStore<'_> {
     ghost rows = { λ s. image_rows s.bytes.now };
 
     ghost capacity = { λ s. room_of s.bytes.now };
 
+    ghost made = { λ a xs b. Led change_bytes
+        a.bytes.now a.bytes.ghost_name xs b.bytes.now b.bytes.ghost_name };
+
     ghost bounded = { λ s. image_bounded s.bytes.now };
 
+    ghost unchanged = { λ s. led-none change_bytes s.bytes.now s.bytes.ghost_name };
+
+    ghost joined = { λ a b c xs ys p q. led-joined change_bytes
+        a.bytes.now b.bytes.now c.bytes.now
+        a.bytes.ghost_name b.bytes.ghost_name c.bytes.ghost_name xs ys p q };
+
     #[tactic(auto, using(crate::proofs::Signed::counted))]
-    fn count(&mut self) -> usize
-        ensures answer { result ≡ length (image_rows self.old.bytes.now) }
-        ensures bytes { self.new.bytes.now ≡ self.old.bytes.now }
-        ensures lent { self.new.bytes.ghost_name ≡ self.old.bytes.ghost_name }
-    {
+    fn count(&mut self) -> usize {
         count_of(self.bytes())
     }
 
-    fn room(&mut self) -> usize
-        ensures answer { result ≡ room_of self.old.bytes.now }
-        ensures bytes { self.new.bytes.now ≡ self.old.bytes.now }
-        ensures lent { self.new.bytes.ghost_name ≡ self.old.bytes.ghost_name }
-    {
+    fn room(&mut self) -> usize {
         room_of(self.bytes())
     }
 
-    fn row(&mut self, place: usize) -> Option<Row>
-        ensures answer { result ≡ slice_get (image_rows self.old.bytes.now) place }
-        ensures bytes { self.new.bytes.now ≡ self.old.bytes.now }
-        ensures lent { self.new.bytes.ghost_name ≡ self.old.bytes.ghost_name }
-    {
+    fn row(&mut self, place: usize) -> Option<Row> {
         row_in(self.bytes(), place)
     }
 
-    fn find(&mut self, key: Key) -> Option<usize>
-        ensures answer { result ≡ place_for key (image_rows self.old.bytes.now) }
-        ensures bytes { self.new.bytes.now ≡ self.old.bytes.now }
-        ensures lent { self.new.bytes.ghost_name ≡ self.old.bytes.ghost_name }
-    {
+    fn find(&mut self, key: Key) -> Option<usize> {
         find_in(self.bytes(), key)
     }
 
-    fn put(&mut self, place: usize, figures: Figures) -> Result<(), StoreFault>
-        ensures answer { result ≡ put_answer (image_rows self.old.bytes.now) place }
-        ensures after { image_rows self.new.bytes.now ≡ put_row (image_rows self.old.bytes.now) place figures }
-        ensures roomy { room_of self.new.bytes.now ≡ room_of self.old.bytes.now }
-        ensures bytes { self.new.bytes.now ≡ put_bytes self.old.bytes.now place figures }
-        ensures lent { self.new.bytes.ghost_name ≡ self.old.bytes.ghost_name }
-    {
+    fn put(&mut self, place: usize, figures: Figures) -> Result<(), StoreFault> {
         put_in(self.bytes, place, figures)
     }
 
-    fn add(&mut self, row: Row) -> Result<(), StoreFault>
-        ensures answer { result ≡ add_answer (image_rows self.old.bytes.now) (room_of self.old.bytes.now) }
-        ensures after { image_rows self.new.bytes.now ≡ add_row (image_rows self.old.bytes.now) (room_of self.old.bytes.now) row }
-        ensures roomy { room_of self.new.bytes.now ≡ room_of self.old.bytes.now }
-        ensures bytes { self.new.bytes.now ≡ add_bytes self.old.bytes.now row }
-        ensures lent { self.new.bytes.ghost_name ≡ self.old.bytes.ghost_name }
-    {
+    fn add(&mut self, row: Row) -> Result<(), StoreFault> {
         add_in(self.bytes, row)
     }
 }

@@ -2,7 +2,7 @@
 
 ghost use Rattle.registers.specs.Registers.{Bounded};
 
-use crate::row::Figures;
+use crate::figures::Figures;
 
 /// Figures in range: a few of them and amounts add up within 64 bits.
 #[derive(Clone, Copy, PartialEq, Eq, Debug)]

@@ -1,6 +1,6 @@
 //! Numbers that lie in their ranges by type.
 
-ghost use Rattle.std.specs.Prelude.{◌≡◌, ◌≤◌, pos};
+ghost use Rattle.std.specs.Prelude.{◌≡◌, ◌≤◌};
 ghost use Rattle.std.specs.Option.{option_map};
 ghost use Rattle.registers.specs.Amounts.{ranged};
 
@@ -12,22 +12,21 @@ pub struct Ranged<const MOST: u32> {
     ghost most: { value ≤ MOST },
 }
 
+/// The greatest price, quantity and ratio.
+pub const MOST_PRICE: u32 = 100_000_000;
+
+pub const MOST_QUANTITY: u32 = 1_000_000;
+
+pub const MOST_RATIO: u32 = 10_000;
+
 /// A price: 1 to 100,000,000 ten-thousandths of a ruble.
-pub type Price = Ranged<100_000_000>;
+pub type Price = Ranged<MOST_PRICE>;
 
 /// A quantity of securities: 1 to 1,000,000.
-pub type Quantity = Ranged<1_000_000>;
+pub type Quantity = Ranged<MOST_QUANTITY>;
 
 /// A market risk ratio: 1 to 10,000 ten-thousandths.
-pub type Ratio = Ranged<10_000>;
-
-/// Kopecks, or pieces of a security, that a call moves: 0 to 10^16, so that a figure in range and
-/// any few amounts add up within 64 bits.
-#[derive(Clone, Copy, PartialEq, Eq, Debug)]
-pub struct Amount {
-    pub units: u64,
-    ghost most: { units ≤ 10000000000000000 },
-}
+pub type Ratio = Ranged<MOST_RATIO>;
 
 impl<const MOST: u32> Ranged<MOST> {
     /// The number of this value, or `None` outside 1 to `MOST`.
@@ -38,25 +37,5 @@ impl<const MOST: u32> Ranged<MOST> {
             return None;
         }
         Some(Ranged { value })
-    }
-}
-
-/// As many pieces as a quantity counts.
-impl From<Quantity> for Amount {
-    ghost from_gives = { λ quantity r. r.units ≡ quantity.value };
-
-    fn from(quantity: Quantity) -> Amount {
-        Amount {
-            units: u64::from(quantity.value),
-        }
-    }
-}
-
-/// The units of an amount, as figures count them.
-impl From<Amount> for i64 {
-    ghost from_gives = { λ amount r. r ≡ pos amount.units };
-
-    fn from(amount: Amount) -> i64 {
-        amount.units as i64
     }
 }

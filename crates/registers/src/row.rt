@@ -1,33 +1,13 @@
-//! What a register is: its key and its three figures.
+//! Registers as rows of a store.
 
-/// What a register is. The number of each kind is the one that is stored.
-#[derive(Clone, Copy, PartialEq, Eq, Debug)]
-pub enum Kind {
-    /// 1: an account's cash.
-    Cash = 1,
-    /// 2: an account's holding of a security.
-    Holding = 2,
-    /// 3: a participant's limit.
-    Participant = 3,
-}
+ghost use Rattle.std.specs.Prelude.{Some};
+ghost use Rattle.registers.specs.Registers.{same_key};
+ghost use Rattle.registers.specs.Texts.{row_text};
 
-/// A register's key as stored numbers. The kind is the number of a `Kind`, or any other that the bytes
-/// of an image spell; the code names the account or the participant, and the security is 0 for cash and
-/// for a participant's limit.
-#[derive(Clone, Copy, PartialEq, Eq, PartialOrd, Ord, Debug)]
-pub struct Key {
-    pub kind: u8,
-    pub code: u32,
-    pub security: u16,
-}
-
-/// A register's figures. The third is the delivery figure in registers of cash and of holdings, the collateral in a participant's.
-#[derive(Clone, Copy, PartialEq, Eq, Debug)]
-pub struct Figures {
-    pub limit: i64,
-    pub blocked: i64,
-    pub third: i64,
-}
+use crate::figures::Figures;
+use crate::key::Key;
+use seek::Keyed;
+use std::fmt;
 
 /// A register: its key and its figures.
 #[derive(Clone, Copy, PartialEq, Eq, Debug)]
@@ -49,3 +29,21 @@ pub const BLANK: Row = Row {
         third: 0,
     },
 };
+
+impl Keyed<Key> for Row {
+    ghost bears = { λ r k. same_key r.key k };
+
+    fn is_at(&self, key: Key) -> bool {
+        self.key.is_at(key)
+    }
+}
+
+/// The key and then the figures.
+impl fmt::Display for Row {
+    ghost output = { λ r. Some (row_text r) };
+
+    fn fmt<W: fmt::Write>(&self, f: &mut fmt::Formatter<W>) -> fmt::Result {
+        let Row { key, figures } = *self;
+        write!(f, "{key} {figures}")
+    }
+}

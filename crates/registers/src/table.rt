@@ -4,11 +4,14 @@ ghost use Rattle.std.specs.Prelude.{◌≡◌, ◌<◌, ◌≤◌, min, [], leng
 ghost use Rattle.std.specs.List.{slice_get};
 ghost use Rattle.registers.specs.Stores.{place_for};
 ghost use Rattle.registers.specs.Bounds.{table_bounded};
-ghost use Rattle.registers.specs.Tables.{table_room, table_rows};
+ghost use Rattle.registers.specs.Changes.{Led, led-none, led-joined};
+ghost use Rattle.registers.specs.Tables.{table_room, table_rows, lent, change_table};
 
 use crate::fault::StoreFault;
-use crate::row::{Figures, Key, Row};
-use crate::store::Store;
+use crate::figures::Figures;
+use crate::key::Key;
+use crate::row::Row;
+use crate::store::{MOST_ROWS, Store};
 
 /// A store over a table of rows that its owner lends. Its room is the table's length, at most 4,096;
 /// what the table holds beyond the rows of the store means nothing.
@@ -21,10 +24,12 @@ pub struct RowStore<'a> {
 }
 
 impl<'a> RowStore<'a> {
-    /// An empty store over `table`.
+    /// An empty store over `table`. Every row of the table is as it stood.
     pub fn new(table: &'a mut [Row]) -> RowStore<'a>
         ensures empty { table_rows result.table.now result.filled ≡ [] }
-        ensures room { table_room result.table.now ≡ min (length table.old) 4096 }
+        ensures of { result.table.now ≡ table.old }
+        ensures lent { result.table.ghost_name ≡ table.entry.ghost_name }
+        ensures room { table_room result.table.now ≡ min (length table.old) MOST_ROWS }
     {
         RowStore { table, filled: 0 }
     }
@@ -32,7 +37,7 @@ impl<'a> RowStore<'a> {
     fn size(&self) -> usize
         ensures { result ≡ table_room self.now.table.now }
     {
-        self.table.len().min(4096)
+        self.table.len().min(MOST_ROWS)
     }
 
     fn at(&self, place: usize) -> Option<Row>
@@ -53,7 +58,17 @@ impl Store for RowStore<'_> {
 
     ghost capacity = { λ s. table_room s.table.now };
 
+    ghost made = { λ a xs b. Led change_table
+        (lent a.table.now a.filled) a.table.ghost_name xs
+        (lent b.table.now b.filled) b.table.ghost_name };
+
     ghost bounded = { λ s. table_bounded s.table.now s.filled s.inside };
+
+    ghost unchanged = { λ s. led-none change_table (lent s.table.now s.filled) s.table.ghost_name };
+
+    ghost joined = { λ a b c xs ys p q. led-joined change_table
+        (lent a.table.now a.filled) (lent b.table.now b.filled) (lent c.table.now c.filled)
+        a.table.ghost_name b.table.ghost_name c.table.ghost_name xs ys p q };
 
     fn count(&mut self) -> usize {
         self.filled

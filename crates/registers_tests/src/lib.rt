@@ -5,10 +5,12 @@
 mod tests {
     use registers::amounts::money;
     use registers::fault::StoreFault;
+    use registers::figures::Figures;
     use registers::image;
     use registers::image::ImageStore;
+    use registers::key::Key;
     use registers::ranges::{Price, Quantity};
-    use registers::row::{Figures, Key, Row};
+    use registers::row::Row;
     use registers::store::Store;
     use registers::table::RowStore;
     use std::fmt::Debug;

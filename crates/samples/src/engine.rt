@@ -1,15 +1,17 @@
 //! Level One's dealings, on the engine over both stores.
 
 use crate::stores::show_rows;
+use full::call::Call;
 use full::engine::Engine;
-use full_runs::call::Call;
-use full_runs::runs::carry_out;
-use orders::order::Side;
+use full::settings::Settings;
+use full::side::Side;
+use plans::machine::Machine;
 use printing::calls::{announce, open, trade};
-use printing::shown::{Asked, Told};
+use printing::shown::{ShownCall, ShownOutcome};
 use registers::image;
 use registers::image::ImageStore;
-use registers::row::{BLANK, Kind};
+use registers::kind::RegisterKind;
+use registers::row::BLANK;
 use registers::store::Store;
 use registers::table::RowStore;
 use std::io;
@@ -35,8 +37,8 @@ fn withdraw(number: u32) -> Call {
 /// Makes calls, and prints each with its answer.
 fn make<S: Store>(rt: &HostRuntime, engine: &mut Engine<S>, calls: &[Call]) -> io::Result<()> {
     for call in calls {
-        let told = Told(carry_out(engine, *call));
-        println!(rt; "{}: {told}", Asked(*call))?;
+        let outcome = ShownOutcome(engine.carry_out(*call));
+        println!(rt; "{}: {outcome}", ShownCall(*call))?;
     }
     Ok(())
 }
@@ -46,15 +48,15 @@ fn begin<S: Store>(rt: &HostRuntime, engine: &mut Engine<S>) -> io::Result<()> {
     let calls = [
         admit(5, 1000),
         admit(5, 1000),
-        open(Kind::Cash, 701, 0, 200),
-        open(Kind::Holding, 701, 5, 0),
-        open(Kind::Cash, 802, 0, 0),
-        open(Kind::Holding, 802, 5, 1000),
-        open(Kind::Cash, 703, 0, 10_200),
-        open(Kind::Holding, 703, 5, 0),
-        open(Kind::Cash, 701, 0, 200),
-        open(Kind::Holding, 701, 6, 0),
-        open(Kind::Participant, 7, 0, 1000),
+        open(RegisterKind::Cash, 701, 0, 200),
+        open(RegisterKind::Holding, 701, 5, 0),
+        open(RegisterKind::Cash, 802, 0, 0),
+        open(RegisterKind::Holding, 802, 5, 1000),
+        open(RegisterKind::Cash, 703, 0, 10_200),
+        open(RegisterKind::Holding, 703, 5, 0),
+        open(RegisterKind::Cash, 701, 0, 200),
+        open(RegisterKind::Holding, 701, 6, 0),
+        open(RegisterKind::Participant, 7, 0, 1000),
     ];
     make(rt, engine, &calls)
 }
@@ -91,7 +93,7 @@ fn go_on<S: Store>(rt: &HostRuntime, engine: &mut Engine<S>) -> io::Result<()> {
 }
 
 fn show_over<S: Store + Drop>(rt: &HostRuntime, store: S) -> io::Result<()> {
-    let mut engine = Engine::new(store, 200);
+    let mut engine = Engine::new(store, Settings { reserve: 200 });
     begin(rt, &mut engine)?;
     go_on(rt, &mut engine)
 }

@@ -5,6 +5,8 @@ mod amounts;
 mod damage;
 mod engine;
 mod examples;
+mod limits;
+mod obligations;
 mod stores;
 
 use std::io;
@@ -14,5 +16,6 @@ fn main(rt: HostRuntime) -> io::Result<()> {
     amounts::show(&rt)?;
     stores::show(&rt)?;
     damage::show(&rt)?;
-    engine::show(&rt)
+    engine::show(&rt)?;
+    limits::show(&rt)
 }

@@ -1,28 +1,25 @@
 //! The same dealings over both stores.
 
-use dayfile::line::Line;
-use dayfile::refusal::LineRefusal;
-use orders::refusal::Refusal;
 use registers::fault::StoreFault;
+use registers::figures::Figures;
 use registers::image;
 use registers::image::ImageStore;
-use registers::row::{BLANK, Figures, Key, Kind, Row};
+use registers::key::Key;
+use registers::kind::RegisterKind;
+use registers::row::{BLANK, Row};
 use registers::store::Store;
 use registers::table::RowStore;
 use std::{fmt, io};
 
 /// What a store answered, to be printed: no number, where the engine answers one.
 #[derive(Clone, Copy)]
-struct Told(Result<(), StoreFault>);
+struct StoreAnswer(Result<(), StoreFault>);
 
-impl fmt::Display for Told {
+impl fmt::Display for StoreAnswer {
     fn fmt<W: fmt::Write>(&self, f: &mut fmt::Formatter<W>) -> fmt::Result {
         match self.0 {
             Ok(()) => write!(f, "ok"),
-            Err(fault) => {
-                let refusal = LineRefusal::from(Refusal::from(fault));
-                write!(f, "no {refusal}")
-            }
+            Err(fault) => write!(f, "no {fault}"),
         }
     }
 }
@@ -32,7 +29,7 @@ pub fn show_rows<S: Store>(rt: &HostRuntime, store: &mut S) -> io::Result<()> {
     // a store is asked through `&mut`, place by place
     for place in 0..store.count() {
         if let Some(row) = store.row(place) {
-            println!(rt; "{}", Line::Register { row })?;
+            println!(rt; "R {row}")?;
         }
     }
     Ok(())
@@ -43,8 +40,8 @@ fn show_counts<S: Store>(rt: &HostRuntime, store: &mut S) -> io::Result<()> {
 }
 
 fn add<S: Store>(rt: &HostRuntime, store: &mut S, key: Key, figures: Figures) -> io::Result<()> {
-    let told = Told(store.add(Row { key, figures }));
-    println!(rt; "add {key}: {told}")
+    let answer = StoreAnswer(store.add(Row { key, figures }));
+    println!(rt; "add {key}: {answer}")
 }
 
 fn put<S: Store>(
@@ -53,8 +50,8 @@ fn put<S: Store>(
     place: usize,
     figures: Figures,
 ) -> io::Result<()> {
-    let told = Told(store.put(place, figures));
-    println!(rt; "put at {place}: {told}")
+    let answer = StoreAnswer(store.put(place, figures));
+    println!(rt; "put at {place}: {answer}")
 }
 
 fn find<S: Store>(rt: &HostRuntime, store: &mut S, key: Key) -> io::Result<()> {
@@ -66,7 +63,7 @@ fn find<S: Store>(rt: &HostRuntime, store: &mut S, key: Key) -> io::Result<()> {
 
 fn look<S: Store>(rt: &HostRuntime, store: &mut S, place: usize) -> io::Result<()> {
     match store.row(place) {
-        Some(row) => println!(rt; "row at {place}: {}", Line::Register { row }),
+        Some(row) => println!(rt; "row at {place}: R {row}"),
         None => println!(rt; "row at {place}: none"),
     }
 }
@@ -79,7 +76,7 @@ fn figures(limit: i64, blocked: i64, third: i64) -> Figures {
     }
 }
 
-fn key(kind: Kind, code: u32, security: u16) -> Key {
+fn key(kind: RegisterKind, code: u32, security: u16) -> Key {
     Key {
         kind: kind as u8,
         code,
@@ -89,21 +86,36 @@ fn key(kind: Kind, code: u32, security: u16) -> Key {
 
 fn deal<S: Store>(rt: &HostRuntime, store: &mut S) -> io::Result<()> {
     show_counts(rt, store)?;
-    add(rt, store, key(Kind::Cash, 701, 0), figures(201, 0, 0))?;
-    add(rt, store, key(Kind::Holding, 701, 5), figures(10, 4, 0))?;
-    add(rt, store, key(Kind::Cash, 999_999, 0), figures(300, -1, 0))?;
     add(
         rt,
         store,
-        key(Kind::Participant, 7, 0),
+        key(RegisterKind::Cash, 701, 0),
+        figures(201, 0, 0),
+    )?;
+    add(
+        rt,
+        store,
+        key(RegisterKind::Holding, 701, 5),
+        figures(10, 4, 0),
+    )?;
+    add(
+        rt,
+        store,
+        key(RegisterKind::Cash, 999_999, 0),
+        figures(300, -1, 0),
+    )?;
+    add(
+        rt,
+        store,
+        key(RegisterKind::Participant, 7, 0),
         figures(1000, 400, 1000),
     )?;
     show_counts(rt, store)?;
     put(rt, store, 0, figures(200, 1, 0))?;
     put(rt, store, 2, figures(1_000_000_000_000_000, -256, 65_536))?;
     put(rt, store, 3, figures(1, 1, 1))?;
-    find(rt, store, key(Kind::Holding, 701, 5))?;
-    find(rt, store, key(Kind::Holding, 701, 6))?;
+    find(rt, store, key(RegisterKind::Holding, 701, 5))?;
+    find(rt, store, key(RegisterKind::Holding, 701, 6))?;
     look(rt, store, 1)?;
     look(rt, store, 3)?;
     show_rows(rt, store)

@@ -1,5 +1,5 @@
 -- The least place at which a record passes a test.
-use Rattle.std.proofs.Common.{◌≡◌, ℕ, zero, suc, ◌+◌, ◌<◌, ◌≤◌, Bool, true, false, cond, List, [], ◌∷◌, length, Some, None, Option, sym, refl, ap, ◌∙◌, arith}
+use Rattle.std.proofs.Common.{◌≡◌, ℕ, zero, suc, ◌+◌, ◌<◌, ◌≤◌, Bool, true, false, cond, List, [], ◌∷◌, length, map, Some, None, Option, sym, refl, ap, ◌∙◌, arith}
 use Rattle.std.specs.List.{slice_get, position_from}
 use Rattle.std.specs.Option.{MatchOption, IfSome}
 use Rattle.seek.proofs.Cases.{no_case}
@@ -8,6 +8,11 @@ use Rattle.seek.specs.Place.{place_of, on_by, passes, BearsAt}
 on_by_one : (i : ℕ) (o : Option ℕ) → on_by (i + 1) o ≡ on_by i (on_by 1 o)
 on_by_one i None = refl
 on_by_one i (Some n) = let e : i + 1 + n ≡ i + (1 + n) = omega arith in ap Some e
+
+-- a search over what the records of a list show
+pub place_of_map : {X Y : Type 0} (f : X → Y) (p : Y → Bool) (xs : List X) → place_of p (map f xs) ≡ place_of (λ x. p (f x)) xs
+place_of_map f p [] = refl
+place_of_map f p (x ∷ xs) = ap (λ (o : Option ℕ). cond (p (f x)) (Some 0) (on_by 1 o)) (place_of_map f p xs)
 
 module _ {X : Type 0} (p : X → Bool) where
   -- std's search, which counts as it goes

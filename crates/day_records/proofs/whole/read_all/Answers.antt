@@ -1,7 +1,7 @@
 use Rattle.std.proofs.Common.{◌≡◌, List, length, sym, ap, subst}
 use Rattle.std.proofs.lemmas.Iterator.{YieldsList}
 use Rattle.std.proofs.lemmas.Iterator.Consumers.{YieldsList-from_shown, map_from_collect}
-use Rattle.day_records.specs.declared.cursor.Reader.{Reader}
+use Rattle.day_records.specs.declared.reader.Reader.{Reader}
 use Rattle.day_records.specs.Items.{Item, items_of}
 use Rattle.day_records.specs.Views.{item_as, items_left, Reads}
 use Rattle.day_records.proofs.whole.read_all.Goals as goal

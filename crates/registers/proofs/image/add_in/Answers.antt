@@ -7,7 +7,7 @@ use Rattle.registers.proofs.image.add_in.Goals as goal
 pub returns-then-count-room_of : goal.returns-then-count-room_of
 returns-then-count-room_of c =
     let d = add_not c.args.bytes.now c.args.row (omega arith) in
-    record { answer = d.answered; after = d.rows; roomy = d.room; bytes = d.bytes }
+    record { answer = d.answered; after = d.rows; same_room = d.room; bytes = d.bytes }
 
 pub returns : goal.returns
 returns c =
@@ -17,4 +17,4 @@ returns c =
     let u = c.write_row.ensures ∙ ap (λ (k : ℕ). spliced 31 (row_place k) (row_bytes c.args.row) c.args.bytes.now) n in
     let t = c.write.ensures.after ∙ ap (λ (k : ℕ). put_at 2 5 (k + 1) c.write_row.new.bytes) n in
     let d = add_done c.args.bytes.now c.write_row.new.bytes c.write.new.bytes c.args.row kf ff (omega arith) u t in
-    record { answer = d.answered; after = d.rows; roomy = d.room; bytes = d.bytes }
+    record { answer = d.answered; after = d.rows; same_room = d.room; bytes = d.bytes }

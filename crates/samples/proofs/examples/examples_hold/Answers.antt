@@ -1,13 +1,14 @@
 use Rattle.std.proofs.Common.{refl}
 use Rattle.registers.specs.Amounts.{rounded}
 use Rattle.registers.specs.Registers.{bounded, in_range}
-use Rattle.orders.specs.Terms.{code_ok, security_ok, number_ok, terms_of, bargain_of}
-use Rattle.orders.specs.Checks.{ready_of, found_of, matched_of, pair_of}
-use Rattle.full.specs.Blocks.{held_at, covered, block_on}
-use Rattle.full.specs.Calls.{cover_at, announce_of}
-use Rattle.full.specs.Trades.{four_of, paid_of, raised_of, settle_of, exchange_of, trade_of}
+use Rattle.full.specs.Terms.{code_ok, security_ok, number_ok, amount_ok, limit_ok, terms_of, bargain_of}
+use Rattle.full.specs.Checks.{ready_of, found_of, matched_of, pair_of}
+use Rattle.full.specs.OpenRegisters.{register_at, covered, block_on, paid_of, limit_raised}
+use Rattle.full.specs.Calls.{enter_of, cover_at, announce_of, placed_of}
+use Rattle.full.specs.Trades.{trade_registers_of, settle_of, exchange_of, trade_of}
+use Rattle.partial.specs.Calls as two
 use Rattle.samples.proofs.examples.examples_hold.Goals as goal
 
 pub returns : goal.returns
-unfolding rounded bounded in_range code_ok security_ok number_ok terms_of bargain_of ready_of found_of matched_of pair_of held_at covered block_on cover_at announce_of four_of paid_of raised_of settle_of exchange_of trade_of
+unfolding rounded bounded in_range code_ok security_ok number_ok amount_ok limit_ok terms_of bargain_of ready_of found_of matched_of pair_of register_at covered block_on enter_of cover_at announce_of placed_of trade_registers_of paid_of limit_raised settle_of exchange_of trade_of two.participant_ok two.limit_opening_ok two.limit_row two.open_of two.debited two.spared two.debit_on two.debit_of two.cover_at two.announce_of two.drawn_from two.drawn_of two.part_of two.trade_of
 returns c = refl

@@ -1,7 +1,7 @@
 use Rattle.std.proofs.Common.{◌≡◌, ℕ, ◌+◌, List, [], ◌∷◌, length, drop, Some, Ok, Err, Result, sym, refl, ap, ◌∙◌, rules, arith}
 use Rattle.std.proofs.lemmas.List.{take_rest, drop_all}
 use Rattle.day_records.specs.declared.fault.Misread.{Misread}
-use Rattle.day_records.specs.declared.placed.Placed.{Placed}
+use Rattle.day_records.specs.declared.placed_record.PlacedRecord.{PlacedRecord}
 use Rattle.day_records.specs.Kinds.{body_of}
 use Rattle.day_records.specs.Items.{item_at, place_after, items_from}
 use Rattle.day_records.specs.Views.{item_as, items_left, told_as}
@@ -23,10 +23,10 @@ returns-then-place-bytes c =
     }
 
 -- where the reader goes on after each answer
-module _ (s : List ℕ) (p : ℕ) (told : Result Placed Misread) (at : told_as (Some told) ≡ item_at p (drop p s)) where
-  past : (read : Placed) (n : ℕ) → told ≡ Ok read → n ≡ length (body_of read.«record») → p + 1 + n ≡ place_after (told_as (Some told)) p (length s)
+module _ (s : List ℕ) (p : ℕ) (told : Result PlacedRecord Misread) (at : told_as (Some told) ≡ item_at p (drop p s)) where
+  past : (read : PlacedRecord) (n : ℕ) → told ≡ Ok read → n ≡ length (body_of read.«record») → p + 1 + n ≡ place_after (told_as (Some told)) p (length s)
   past read n is e =
-      let w = fields_whole s p _ _ read.place (ap (λ (x : Result Placed Misread). told_as (Some x)) (sym is) ∙ at) in
+      let w = fields_whole s p _ _ read.place (ap (λ (x : Result PlacedRecord Misread). told_as (Some x)) (sym is) ∙ at) in
       rw (is, e ∙ w)
 
   ended : (m : Misread) → told ≡ Err m → length s ≡ place_after (told_as (Some told)) p (length s)
@@ -36,10 +36,10 @@ pub returns : goal.returns
 returns c =
     let s : List ℕ = c.args.self.now.bytes.now in
     let p : ℕ = c.args.self.now.place in
-    let told : Result Placed Misread = c.in_ok-told.told in
-    let at : told_as (Some told) ≡ item_at p (drop p s) = c.in_ok-told.ensures ∙ ap (item_at p) (take_rest s p) in
+    let told : Result PlacedRecord Misread = c.placed-told.result in
+    let at : told_as (Some told) ≡ item_at p (drop p s) = c.placed-told.ensures ∙ ap (item_at p) (take_rest s p) in
     let left : c.match-told.self ≡ place_after (told_as (Some told)) p (length s) =
-    elim c.match-told.branch [ goal.in-Ok w ↦ w.self-is ∙ past s p told at w.in-Ok.read w.length.result w.in-Ok.is w.length.ensures | goal.in-Err w ↦ w.self-is ∙ ended s p told at _ w.in-Err.is ]
+    elim c.match-told.branch [ goal.in-Ok w ↦ w.self-is ∙ past s p told at w.in-Ok.read w.length.result w.in-Ok.is w.length.ensures | goal.in-Err w ↦ omega (arith, w.self-is, ended s p told at _ w.in-Err.is) ]
     in
     let step_told : Step s p (told_as (Some told)) = rw at (step s p) in
     let items : items_left c.args.self.now ≡ item_as told ∷ items_from 0 c.match-told.self (drop c.match-told.self s) = rw left step_told.items in

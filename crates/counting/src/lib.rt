@@ -1,0 +1,9 @@
+//! A store that counts the changes of another, and what both levels of the engine do over it: from the
+//! engine's own contracts alone, how many changes a call makes and which bytes of an image it leaves.
+#![tactic(auto)]
+
+pub mod counting;
+pub mod full_calls;
+pub mod partial_calls;
+#[cfg(test)]
+mod tests;

@@ -1,5 +1,0 @@
-//! Whole runs of Level One: a list of calls on one engine.
-#![tactic(auto)]
-
-pub mod call;
-pub mod runs;

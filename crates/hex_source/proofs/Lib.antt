@@ -1,0 +1,4 @@
+pub mod Letterwise
+pub mod Parsed
+pub mod Piecewise
+pub mod Plainly

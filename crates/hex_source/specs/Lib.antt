@@ -1,0 +1,4 @@
+pub mod Letters
+pub mod Pieces
+pub mod Spelling
+pub mod Texts

@@ -1,0 +1,52 @@
+//! Where the reading of a text stands, and what a letter makes of it.
+
+ghost use Rattle.std.specs.Prelude.{◌≡◌};
+ghost use Rattle.hex_source.specs.Letters.{sign_of};
+ghost use Rattle.hex_source.specs.Spelling.{HoldsDigit, LeavesDigit, step_of};
+
+use crate::fault::Fault;
+use crate::letters::Sign;
+
+/// Where the reading of a text stands.
+#[derive(Clone, Copy, PartialEq, Eq, Debug)]
+pub(crate) enum Standing {
+    /// Between bytes.
+    Between,
+    /// Behind the first digit of a byte, which has this value.
+    Half(u8),
+    /// In a remark.
+    Remark,
+}
+
+/// What a letter makes of the reading.
+#[derive(Clone, Copy, PartialEq, Eq, Debug)]
+pub(crate) enum Step {
+    /// The reading goes on from here.
+    Goes(Standing),
+    /// The letter ends this byte, and the reading stands between bytes.
+    Gives(u8),
+    /// The letter cannot stand here.
+    Fails(Fault),
+}
+
+impl Standing {
+    /// What the next letter makes of the reading.
+    pub(crate) fn step(self, letter: u8) -> Step
+        requires { HoldsDigit self }
+        ensures step { result ≡ step_of self letter (sign_of letter) }
+        ensures held { LeavesDigit result }
+    {
+        match (self, Sign::of(letter)) {
+            (Standing::Remark, Sign::LineEnd) => Step::Goes(Standing::Between),
+            (Standing::Remark, _) => Step::Goes(Standing::Remark),
+            (Standing::Between, Sign::Digit(high)) => Step::Goes(Standing::Half(high)),
+            (Standing::Between, Sign::Blank | Sign::LineEnd) => Step::Goes(Standing::Between),
+            (Standing::Between, Sign::Hash) => Step::Goes(Standing::Remark),
+            (Standing::Half(high), Sign::Digit(low)) => Step::Gives(16 * high + low),
+            (Standing::Half(_), Sign::Blank | Sign::LineEnd | Sign::Hash) => {
+                Step::Fails(Fault::HalfByte)
+            }
+            (_, Sign::Other) => Step::Fails(Fault::NoDigit(letter)),
+        }
+    }
+}

@@ -1,7 +1,0 @@
-pub mod Blocks
-pub mod Checks
-pub mod Refusals
-pub mod State
-pub mod Steps
-pub mod Terms
-pub mod Views

@@ -1,0 +1,60 @@
+-- Figures that fall out of their range, and fall further, stay out of it.
+use Rattle.std.proofs.Common.{◌≡◌, ℕ, Bool, true, false, ◌&&◌, ℤ, pos, negsuc, ◌+ℤ◌, ◌-ℤ◌, ◌≤ℤ◌, refl, sym, ◌∙◌, arith}
+use lib.Signed.{le_z}
+use Rattle.std.proofs.lemmas.Bool.{and_parts}
+use Rattle.std.proofs.lemmas.Int.{ints}
+use Rattle.seek.proofs.Cases.{no_case}
+use Rattle.registers.specs.declared.figures.Figures.{Figures}
+use Rattle.registers.specs.Registers.{bounded, in_range}
+use Rattle.full.specs.OpenRegisters.{paid_of}
+
+le_by : (x y : ℤ) (b : Bool) → le_z x y ≡ b → x ≤ℤ y → b ≡ true
+le_by x y true e h = refl
+le_by x y false e h = absurd (omega (arith, ints))
+
+le_holds : (x y : ℤ) → x ≤ℤ y → le_z x y ≡ true
+le_holds x y h = le_by x y (le_z x y) refl h
+
+-- what lies between two figures in bounds is in bounds
+bounded_between : (x y z : ℤ) → bounded x ≡ true → bounded z ≡ true → z ≤ℤ y → y ≤ℤ x → bounded y ≡ true
+unfolding bounded
+bounded_between x y z bx bz l u =
+    let px = and_parts (le_z (negsuc 999999999999999) x) (le_z x (pos 1000000000000000)) bx in
+    let pz = and_parts (le_z (negsuc 999999999999999) z) (le_z z (pos 1000000000000000)) bz in
+    let low : le_z (negsuc 999999999999999) y ≡ true = le_holds (negsuc 999999999999999) y (omega (arith, ints, pz.0)) in
+    let high : le_z y (pos 1000000000000000) ≡ true = le_holds y (pos 1000000000000000) (omega (arith, ints, px.1)) in
+    rw (low, high)
+
+all_true : (a b c d e : Bool) → a ≡ true → b ≡ true → c ≡ true → d ≡ true → e ≡ true → (a && (b && (c && (d && e)))) ≡ true
+all_true true true true true true p q r s t = refl
+all_true false b c d e p q r s t = no_case (cc)
+all_true true false c d e p q r s t = no_case (cc)
+all_true true true false d e p q r s t = no_case (cc)
+all_true true true true false e p q r s t = no_case (cc)
+all_true true true true true false p q r s t = no_case (cc)
+
+-- figures that fell once, between figures in range and figures that fell again
+fell_once : (f : Figures) (v k v' k' : ℕ) → in_range f ≡ true → in_range (paid_of (paid_of f v k) v' k') ≡ true → in_range (paid_of f v k) ≡ true
+unfolding in_range paid_of
+fell_once f v k v' k' h e =
+    let hl = and_parts (bounded f.limit) _ h in
+    let hb = and_parts (bounded f.blocked) _ hl.1 in
+    let ht = and_parts (bounded f.third) _ hb.1 in
+    let hs = and_parts (bounded (f.limit +ℤ f.third)) _ ht.1 in
+    let el = and_parts (bounded (f.limit -ℤ pos v -ℤ pos v')) _ e in
+    let eb = and_parts (bounded (f.blocked -ℤ pos k -ℤ pos k')) _ el.1 in
+    let et = and_parts (bounded f.third) _ eb.1 in
+    let es = and_parts (bounded ((f.limit -ℤ pos v -ℤ pos v') +ℤ f.third)) _ et.1 in
+    all_true _ _ _ _ _
+    (bounded_between f.limit (f.limit -ℤ pos v) (f.limit -ℤ pos v -ℤ pos v') hl.0 el.0 (omega (arith, ints)) (omega (arith, ints)))
+    (bounded_between f.blocked (f.blocked -ℤ pos k) (f.blocked -ℤ pos k -ℤ pos k') hb.0 eb.0 (omega (arith, ints)) (omega (arith, ints)))
+    ht.0
+    (bounded_between (f.limit +ℤ f.third) ((f.limit -ℤ pos v) +ℤ f.third) ((f.limit -ℤ pos v -ℤ pos v') +ℤ f.third) hs.0 es.0 (omega (arith, ints)) (omega (arith, ints)))
+    hs.1
+
+falls_by : (f : Figures) (v k v' k' : ℕ) (b : Bool) → in_range (paid_of (paid_of f v k) v' k') ≡ b → in_range f ≡ true → in_range (paid_of f v k) ≡ false → b ≡ false
+falls_by f v k v' k' false e h out = refl
+falls_by f v k v' k' true e h out = no_case (let t = fell_once f v k v' k' h e in cc)
+
+pub falls : (f : Figures) (v k v' k' : ℕ) → in_range (paid_of f v k) ≡ false → in_range f ≡ true → in_range (paid_of (paid_of f v k) v' k') ≡ false
+falls f v k v' k' out h = falls_by f v k v' k' _ refl h out

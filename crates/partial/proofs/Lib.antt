@@ -1,0 +1,2 @@
+pub mod Draws
+pub mod Falls

@@ -1,0 +1,4 @@
+pub mod Obligations
+pub mod State
+pub mod Calls
+pub mod Plans

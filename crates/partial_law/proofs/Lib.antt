@@ -1,0 +1,5 @@
+pub mod Calls
+pub mod Laws
+pub mod Promises
+pub mod Owed
+pub mod Parts

@@ -1,0 +1,249 @@
+//! The shapes of runs: how large a store is, and what is drawn how often.
+//!
+//! Each refusal that a run from an empty store can bring about comes up in one of them: 2 where the room is small, 4
+//! where there are many securities, 9 where there are many orders, 18 where there are many obligations, 26 where
+//! amounts are great, and all others in most. These can not come up:
+//!
+//! - 25, figures that were read out of range. An opening writes figures in range, and every call refuses to leave it,
+//!   so only an image that brings rows with it has such.
+//! - 6 of a withdrawal and of a trade: an order was accepted over open registers, and none closes.
+//! - 26 of a withdrawal, and of a trade in partial mode. The block of a rest is taken from a blocked figure that holds
+//!   it but for some kopecks. At most 128 trades in partial mode are accepted, and each takes at most 2 × 10^12 from
+//!   a limit, so that all together take less than the 10^15 that the range has below 0.
+//! - 22 to 24, which are no refusals of Level Two.
+
+ghost use Rattle.std.specs.Prelude.{◌≤◌};
+
+use crate::draws::Draws;
+
+/// What is drawn to be called.
+#[derive(Clone, Copy, PartialEq, Eq, Debug)]
+pub enum Wish {
+    Admission,
+    Opening,
+    Credit,
+    Post,
+    Debit,
+    Announcement,
+    Withdrawal,
+    Trade,
+}
+
+/// How often each call is drawn, beside the others.
+#[derive(Clone, Copy, PartialEq, Eq, Debug)]
+pub struct Weights {
+    pub admission: u16,
+    pub opening: u16,
+    pub credit: u16,
+    pub post: u16,
+    pub debit: u16,
+    pub announcement: u16,
+    pub withdrawal: u16,
+    pub trade: u16,
+}
+
+/// A shape. Limits and amounts are drawn up to `amount`, quantities and prices up to theirs, orders from so many
+/// accounts and in so many securities; `partial` of ten orders are in partial mode.
+#[derive(Clone, Copy)]
+pub struct Shape {
+    pub name: &'static str,
+    pub reserve: u16,
+    pub room: usize,
+    pub securities: u16,
+    pub accounts: u32,
+    pub amount: u64,
+    pub quantity: u32,
+    pub price: u32,
+    pub partial: u32,
+    pub weights: Weights,
+    ghost stored: { room ≤ 4096 },
+}
+
+/// How many calls of a run are drawn by `AT_FIRST`, so that there is something to deal with.
+pub const FIRST_CALLS: u64 = 60;
+
+/// The weights at the beginning of a run.
+pub const AT_FIRST: Weights = Weights {
+    admission: 20,
+    opening: 60,
+    credit: 10,
+    post: 10,
+    debit: 0,
+    announcement: 0,
+    withdrawal: 0,
+    trade: 0,
+};
+
+/// How many shapes there are.
+pub const SHAPE_COUNT: u64 = 6;
+
+/// The shapes, in the order in which runs take them.
+pub const SHAPES: [Shape; 6] = [
+    Shape {
+        name: "a bit of all",
+        reserve: 1_000,
+        room: 40,
+        securities: 3,
+        accounts: 6,
+        amount: 2_000,
+        quantity: 150,
+        price: 400,
+        partial: 5,
+        weights: Weights {
+            admission: 2,
+            opening: 8,
+            credit: 1,
+            post: 2,
+            debit: 8,
+            announcement: 37,
+            withdrawal: 9,
+            trade: 33,
+        },
+    },
+    Shape {
+        name: "a small store",
+        reserve: 50,
+        room: 10,
+        securities: 2,
+        accounts: 3,
+        amount: 800,
+        quantity: 40,
+        price: 1_000,
+        partial: 5,
+        weights: Weights {
+            admission: 2,
+            opening: 15,
+            credit: 5,
+            post: 4,
+            debit: 4,
+            announcement: 35,
+            withdrawal: 5,
+            trade: 30,
+        },
+    },
+    Shape {
+        name: "many securities",
+        reserve: 0,
+        room: 120,
+        securities: 90,
+        accounts: 2,
+        amount: 2_000,
+        quantity: 40,
+        price: 400,
+        partial: 5,
+        weights: Weights {
+            admission: 25,
+            opening: 30,
+            credit: 5,
+            post: 3,
+            debit: 2,
+            announcement: 25,
+            withdrawal: 2,
+            trade: 8,
+        },
+    },
+    Shape {
+        name: "many orders",
+        reserve: 200,
+        room: 30,
+        securities: 2,
+        accounts: 4,
+        amount: 1_000_000,
+        quantity: 5,
+        price: 100,
+        partial: 5,
+        weights: Weights {
+            admission: 1,
+            opening: 3,
+            credit: 1,
+            post: 1,
+            debit: 1,
+            announcement: 88,
+            withdrawal: 2,
+            trade: 3,
+        },
+    },
+    Shape {
+        name: "many obligations",
+        reserve: 200,
+        room: 30,
+        securities: 1,
+        accounts: 4,
+        amount: 400,
+        quantity: 100,
+        price: 150,
+        partial: 10,
+        weights: Weights {
+            admission: 1,
+            opening: 4,
+            credit: 1,
+            post: 3,
+            debit: 7,
+            announcement: 34,
+            withdrawal: 2,
+            trade: 48,
+        },
+    },
+    Shape {
+        name: "great amounts",
+        reserve: 65_535,
+        room: 16,
+        securities: 1,
+        accounts: 2,
+        amount: 100_000_000_000_000,
+        quantity: 1_000_000,
+        price: 100_000_000,
+        partial: 3,
+        weights: Weights {
+            admission: 1,
+            opening: 6,
+            credit: 40,
+            post: 7,
+            debit: 5,
+            announcement: 21,
+            withdrawal: 4,
+            trade: 16,
+        },
+    },
+];
+
+impl Weights {
+    /// Draws a call.
+    pub(crate) fn draw(self, draws: &mut Draws) -> Wish {
+        let list = [
+            (Wish::Admission, self.admission),
+            (Wish::Opening, self.opening),
+            (Wish::Credit, self.credit),
+            (Wish::Post, self.post),
+            (Wish::Debit, self.debit),
+            (Wish::Announcement, self.announcement),
+            (Wish::Withdrawal, self.withdrawal),
+        ];
+        let mut left = draws.below(self.total());
+        for (wish, weight) in list {
+            let weight = u32::from(weight);
+            if left < weight {
+                return wish;
+            }
+            left -= weight;
+        }
+        Wish::Trade
+    }
+
+    fn total(self) -> u32 {
+        [
+            self.admission,
+            self.opening,
+            self.credit,
+            self.post,
+            self.debit,
+            self.announcement,
+            self.withdrawal,
+            self.trade,
+        ]
+        .iter()
+        .fold(0, |sum: u32, weight| {
+            sum.saturating_add(u32::from(*weight))
+        })
+    }
+}

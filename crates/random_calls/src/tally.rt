@@ -1,0 +1,213 @@
+//! A second account of a run, kept from the calls and whether they were accepted, and from nothing else.
+
+use crate::fault::Fault;
+use crate::notes::{Note, Opened, Owed};
+use full::announcement::Announcement;
+use full::call::Call as FullCall;
+use full::deal::Deal;
+use full::opening::Opening;
+use full::order::Order;
+use partial::call::Call;
+use partial::obligation::Obligation;
+use registers::key::Key;
+use std::alloc::{AllocError, Global};
+use std::collections::BTreeMap;
+
+/// The ratios of admitted securities, the opened registers in their order, the announced orders and the obligations
+/// by their numbers, and how many orders have a rest.
+#[derive(Drop)]
+pub struct Tally {
+    pub reserve: u16,
+    pub opened: Vec<Opened>,
+    pub live: usize,
+    ratios: BTreeMap<u16, u16>,
+    notes: BTreeMap<u32, Note>,
+    owed: BTreeMap<u32, Owed>,
+    look: u64,
+}
+
+impl Tally {
+    /// The tally of no calls, under a reserve.
+    pub(crate) fn new(heap: Global, reserve: u16) -> Tally {
+        Tally {
+            reserve,
+            opened: Vec::new(heap),
+            live: 0,
+            ratios: BTreeMap::new(heap),
+            notes: BTreeMap::new(heap),
+            owed: BTreeMap::new(heap),
+            look: 0,
+        }
+    }
+
+    /// The order of a number as it was noted.
+    pub(crate) fn noted(&self, number: u32) -> Option<Note> {
+        self.notes.get(&number).copied()
+    }
+
+    /// How many obligations were noted.
+    pub(crate) fn owed_count(&self) -> usize {
+        self.owed.len()
+    }
+
+    fn place_of(&self, key: Key) -> Option<usize> {
+        self.opened.iter().position(|opened| opened.key == key)
+    }
+
+    fn note_admission(&mut self, security: u16, ratio: u16) -> Result<(), Fault> {
+        self.ratios
+            .insert(security, ratio)
+            .map_err(AllocError::from)?;
+        Ok(())
+    }
+
+    fn note_opening(&mut self, opening: Opening) -> Result<(), Fault> {
+        let opened = Opened::of(opening);
+        if self.place_of(opened.key).is_some() {
+            return Err(Fault::OpenedAgain);
+        }
+        self.opened.push(opened).map_err(AllocError::from)?;
+        Ok(())
+    }
+
+    fn note_order(&mut self, announced: Announcement) -> Result<(), Fault> {
+        let ratio = self
+            .ratios
+            .get(&announced.security)
+            .copied()
+            .ok_or(Fault::NotAdmitted)?;
+        let note = Note::of(announced, ratio);
+        let register = self.place_of(note.key()).ok_or(Fault::NotOpened)?;
+        let before = self
+            .notes
+            .insert(announced.number, Note { register, ..note })
+            .map_err(AllocError::from)?;
+        if before.is_some() {
+            return Err(Fault::AnnouncedAgain);
+        }
+        Ok(())
+    }
+
+    fn note_trade_leaving_rest(&mut self, register: usize) {
+        if let Some(opened) = self.opened.get_mut(register) {
+            opened.trades_leaving_rest = opened.trades_leaving_rest.saturating_add(1);
+        }
+    }
+
+    fn note_traded(&mut self, number: u32, quantity: u32) -> Result<(), Fault> {
+        let Some(note) = self.notes.get_mut(&number) else {
+            return Err(Fault::NotAnnounced);
+        };
+        note.traded = note.traded.saturating_add(quantity);
+        let after = *note;
+        if after.traded.saturating_add(after.back) > after.announced.quantity {
+            return Err(Fault::RestBelowZero);
+        }
+        if after.rest() > 0 {
+            self.note_trade_leaving_rest(after.register);
+        }
+        Ok(())
+    }
+
+    fn note_owed(&mut self, obligation: Obligation) -> Result<(), Fault> {
+        let owed = Owed {
+            obligation,
+            seen: 0,
+        };
+        let before = self
+            .owed
+            .insert(obligation.number, owed)
+            .map_err(AllocError::from)?;
+        if before.is_some() {
+            return Err(Fault::TradedAgain);
+        }
+        Ok(())
+    }
+
+    fn note_trade(&mut self, deal: Deal) -> Result<(), Fault> {
+        let buy = self.noted(deal.buy).ok_or(Fault::NotAnnounced)?;
+        let sell = self.noted(deal.sell).ok_or(Fault::NotAnnounced)?;
+        if buy.is_partial() {
+            self.note_owed(Owed::obligation(deal, buy, sell))?;
+        }
+        self.note_traded(deal.buy, deal.quantity)?;
+        self.note_traded(deal.sell, deal.quantity)
+    }
+
+    fn note_withdrawn(&mut self, number: u32) -> Result<(), Fault> {
+        let Some(note) = self.notes.get_mut(&number) else {
+            return Err(Fault::NotAnnounced);
+        };
+        note.back = note.back.saturating_add(note.rest());
+        Ok(())
+    }
+
+    fn note(&mut self, call: Call) -> Result<(), Fault> {
+        match call {
+            Call::Full(FullCall::Admit { security, ratio }) => self.note_admission(security, ratio),
+            Call::Full(FullCall::Open(opening)) => self.note_opening(opening),
+            Call::Full(FullCall::Announce(announced)) => self.note_order(announced),
+            Call::Full(FullCall::Withdraw { number }) => self.note_withdrawn(number),
+            Call::Full(FullCall::Trade(deal)) => self.note_trade(deal),
+            Call::Full(FullCall::Credit { .. }) | Call::Post { .. } | Call::Debit { .. } => Ok(()),
+        }
+    }
+
+    /// Notes an accepted call, and adds up the live rests anew.
+    pub(crate) fn enter(&mut self, call: Call) -> Result<(), Fault> {
+        self.note(call)?;
+        self.add_up();
+        Ok(())
+    }
+
+    fn add_up(&mut self) {
+        self.live = 0;
+        for opened in self.opened.iter_mut() {
+            opened.live_blocks = 0;
+        }
+        for note in self.notes.values() {
+            if note.rest() == 0 {
+                continue;
+            }
+            self.live = self.live.saturating_add(1);
+            if let Some(opened) = self.opened.get_mut(note.register) {
+                opened.live_blocks = opened.live_blocks.saturating_add(note.block());
+            }
+        }
+    }
+
+    /// Begins to look at an engine: nothing of it is seen yet.
+    pub(crate) fn begin_look(&mut self) {
+        self.look = self.look.saturating_add(1);
+    }
+
+    /// Sees a live order of an engine. Refuses one that was not noted so, has no rest, or was seen in this look.
+    pub(crate) fn see_order(&mut self, order: &Order) -> Result<(), Fault> {
+        let Some(note) = self.notes.get_mut(&order.number) else {
+            return Err(Fault::OtherOrder);
+        };
+        if note.seen == self.look {
+            return Err(Fault::OrderTwice);
+        }
+        note.seen = self.look;
+        if !note.stands_as(order) {
+            return Err(Fault::OtherOrder);
+        }
+        Ok(())
+    }
+
+    /// Sees an obligation of an engine. Refuses one that was not noted so, or was seen in this look.
+    pub(crate) fn see_obligation(&mut self, obligation: &Obligation) -> Result<(), Fault> {
+        let Some(owed) = self.owed.get_mut(&obligation.number) else {
+            return Err(Fault::OtherObligation);
+        };
+        if owed.seen == self.look {
+            return Err(Fault::ObligationTwice);
+        }
+        owed.seen = self.look;
+        if owed.obligation != *obligation {
+            return Err(Fault::OtherObligation);
+        }
+        Ok(())
+    }
+}
