@@ -1,7 +1,8 @@
-//! The table of obligations once it is full.
+//! The table of obligations once it is full, a place of it that was freed, and the book once it is full.
 
 use crate::support::{
-    SECURITY, SETTINGS, announce, buy, check, check_rows, figures, make, opened, order, sell, trade,
+    SECURITY, SETTINGS, announce, buy, check, check_rows, figures, make, opened, order, sell,
+    trade, withdraw,
 };
 use full::mode::Mode;
 use full::order::Order;
@@ -69,4 +70,52 @@ fn the_129th_obligation_is_refused(rt: HostRuntime) {
         (trade(130, 1, 2, 1, 1_000), Err(18)),
     ];
     make(&rt, &mut engine, &still);
+}
+
+/// An obligation is entered at the first free place, be it in the midst of others.
+#[test]
+fn a_freed_place_is_used_again(rt: HostRuntime) {
+    let mut table = [BLANK; 6];
+    let mut engine = Engine::new(RowStore::new(&mut table), SETTINGS);
+    make(&rt, &mut engine, &opened(802));
+    let traded = [
+        (buy(1, 701, 200, 1_000), Ok(200)),
+        (sell(2, 802, 200, 1_000), Ok(200)),
+        (trade(1, 1, 2, 1, 1_000), Ok(10)),
+        (trade(2, 1, 2, 1, 1_000), Ok(10)),
+        (trade(3, 1, 2, 1, 1_000), Ok(10)),
+    ];
+    make(&rt, &mut engine, &traded);
+    engine.obligations.table[1] = None;
+    check(&rt, engine.obligations.free_place(), Some(1));
+    make(&rt, &mut engine, &[(trade(4, 1, 2, 1, 1_000), Ok(10))]);
+    check(&rt, engine.obligations.place_of(1), Some(0));
+    check(&rt, engine.obligations.place_of(4), Some(1));
+    check(&rt, engine.obligations.place_of(3), Some(2));
+    check(&rt, engine.obligations.place_of(2), None);
+    check(&rt, engine.obligations.free_place(), Some(3));
+}
+
+/// Orders in partial mode take places of the one book: with 256 live the next is refused, and once one is withdrawn it
+/// is accepted.
+#[test]
+fn the_257th_order_is_refused(rt: HostRuntime) {
+    let mut table = [BLANK; 6];
+    let mut engine = Engine::new(RowStore::new(&mut table), SETTINGS);
+    make(&rt, &mut engine, &opened(802));
+    for number in 1..=256 {
+        make(&rt, &mut engine, &[(buy(number, 701, 1, 1_000), Ok(1))]);
+    }
+    let steps = [
+        (buy(257, 701, 1, 1_000), Err(9)),
+        (withdraw(256), Ok(1)),
+        (buy(257, 701, 1, 1_000), Ok(1)),
+        (sell(258, 802, 1, 1_000), Err(9)),
+    ];
+    make(&rt, &mut engine, &steps);
+    let left = [
+        (4, figures(1_000, 256, 1_000)),
+        (5, figures(1_000, 0, 1_000)),
+    ];
+    check_rows(&rt, &mut engine.full.store, &left);
 }
