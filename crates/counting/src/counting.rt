@@ -34,7 +34,8 @@ impl<S: Store> Counting<S> {
     pub fn changes(&self) -> u64
         ensures { result ≡ self.now.count }
     {
-        self.count
+        let Counting { inner: _, count } = self;
+        *count
     }
 
     /// Hands the inner store out again.

@@ -1,12 +1,9 @@
-//! What calls of Level One count, and which bytes of an image they leave.
+//! What calls of Level One count.
 
 ghost use Rattle.std.specs.Prelude.{◌≡◌, OnErr, length, take};
-ghost use Rattle.registers.specs.Images.{image_rows, room_of};
 ghost use Rattle.plans.specs.Plans.{answer_of};
 ghost use Rattle.plans.specs.Runs.{changes_over};
-ghost use Rattle.counting.specs.Counts.{counted_on, count_after, bytes_after};
-ghost use Rattle.full.specs.State.{begin};
-ghost use Rattle.full.specs.Calls.{credit_of};
+ghost use Rattle.counting.specs.Counts.{counted_on, count_after};
 ghost use Rattle.full.specs.Plans.{call_of};
 ghost use Rattle.full.specs.Trades.{trade_of};
 
@@ -14,10 +11,8 @@ use crate::counting::Counting;
 use full::call::Call;
 use full::deal::Deal;
 use full::engine::Engine;
-use full::settings::Settings;
 use plans::machine::{Machine, carry_all};
 use plans::refusal::Refusal;
-use registers::image::ImageStore;
 use registers::store::Store;
 
 /// Carries out any call over a store that is counted: the count grows by the changes of the call's plan,
@@ -50,32 +45,4 @@ pub fn counted_run<S: Store>(
 {
     carry_all(engine, calls, outcomes);
     engine.store.changes()
-}
-
-/// Carries out any call over an image whose changes are counted: every byte is as the call's plan leaves it.
-pub fn image_call(engine: &mut Engine<Counting<ImageStore<'_>>>, call: Call) -> Result<i64, Refusal>
-    ensures answer { result ≡ answer_of (call_of engine.old.state call) }
-    ensures count { let plan = call_of engine.old.state call in
-        engine.new.store.count ≡ count_after engine.old.store.count plan }
-    ensures bytes { let plan = call_of engine.old.state call in
-        engine.new.store.inner.bytes.now ≡ bytes_after engine.old.store.inner.bytes.now plan }
-{
-    engine.carry_out(call)
-}
-
-/// A credit by a new engine over an image: which bytes the store has when the engine hands it out again.
-pub fn credited_store(
-    store: ImageStore<'_>,
-    code: u32,
-    security: u16,
-    amount: u64,
-) -> ImageStore<'_>
-    ensures bytes { let old = store.entry.bytes.now in
-        let state = begin (image_rows old) (room_of old) (record { reserve = 0 }) in
-        result.bytes.now ≡ bytes_after old (credit_of state code security amount) }
-    ensures lent { result.bytes.ghost_name ≡ store.entry.bytes.ghost_name }
-{
-    let mut engine = Engine::new(store, Settings { reserve: 0 });
-    let _answer = engine.credit(code, security, amount);
-    engine.into_store()
 }

@@ -4,6 +4,7 @@
 
 pub mod counting;
 pub mod full_calls;
+pub mod full_images;
 pub mod partial_calls;
 #[cfg(test)]
 mod tests;

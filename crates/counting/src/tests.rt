@@ -1,7 +1,8 @@
 //! What is counted of real calls, and which bytes they leave.
 
 use crate::counting::Counting;
-use crate::full_calls::{counted_call, counted_run, counted_trade, credited_store, image_call};
+use crate::full_calls::{counted_call, counted_run, counted_trade};
+use crate::full_images::{credited_store, image_call};
 use crate::partial_calls;
 use full::announcement::Announcement;
 use full::call::Call;
@@ -22,7 +23,7 @@ use registers::table::RowStore;
 use std::process::Abort;
 
 /// A call, its answer or the number of its refusal, and how many changes are counted after it.
-type Step = (Call, Result<i64, u8>, u64);
+type Expected = (Call, Result<i64, u8>, u64);
 
 const SETTINGS: Settings = Settings { reserve: 200 };
 
@@ -63,7 +64,7 @@ fn order(side: Side, number: u32, account: u32, quantity: u32, price: u32) -> An
 }
 
 /// What both levels' dealings begin with: a security, and cash and a holding of two accounts.
-fn opened(seller: u32) -> [Step; 5] {
+fn opened(seller: u32) -> [Expected; 5] {
     [
         (ADMISSION, Ok(1), 0),
         (open(RegisterKind::Cash, 701, 0, 1_000), Ok(1), 1),
@@ -74,7 +75,7 @@ fn opened(seller: u32) -> [Step; 5] {
 }
 
 /// A trade puts four rows; an order whose block is 0, its withdrawal and a refused call put none.
-fn traded() -> [Step; 8] {
+fn traded() -> [Expected; 8] {
     [
         (Call::Announce(order(Side::Buy, 1, 701, 1, 50)), Ok(1), 5),
         (Call::Announce(order(Side::Sell, 2, 802, 2, 50)), Ok(2), 6),
@@ -92,7 +93,7 @@ fn told(outcome: Result<i64, Refusal>) -> Result<i64, u8> {
 }
 
 /// Makes calls in their order, and compares each outcome and the count after it with what is expected.
-fn check<S: Store>(rt: &impl Abort, engine: &mut Engine<Counting<S>>, steps: &[Step]) {
+fn check<S: Store>(rt: &impl Abort, engine: &mut Engine<Counting<S>>, steps: &[Expected]) {
     for (place, (call, outcome, changes)) in steps.iter().enumerate() {
         let found = told(counted_call(engine, *call));
         assert_eq!(rt; found, *outcome, "call {place}");
@@ -104,7 +105,7 @@ fn check<S: Store>(rt: &impl Abort, engine: &mut Engine<Counting<S>>, steps: &[S
 fn check_partial<S: Store>(
     rt: &impl Abort,
     engine: &mut partial::engine::Engine<Counting<S>>,
-    steps: &[Step],
+    steps: &[Expected],
 ) {
     for (place, (call, outcome, changes)) in steps.iter().enumerate() {
         let found = told(partial_calls::counted_call(engine, (*call).into()));

@@ -6,7 +6,7 @@ use Rattle.day_records.specs.declared.day_file.DayFile.{DayFile}
 use Rattle.day_records.specs.declared.day_file.TheConstants.{HEADER_LENGTH}
 use Rattle.day_records.specs.declared.reader.Reader.{Reader}
 use Rattle.day_records.specs.declared.fault.FileFault.{FileFault}
-use Rattle.day_records.specs.declared.fault.Misread.{Misread}
+use Rattle.day_records.specs.declared.misread.Misread.{Misread}
 use Rattle.day_records.specs.declared.placed_record.PlacedRecord.{PlacedRecord}
 use Rattle.day_records.specs.Kinds.{kind_of, body_of}
 use Rattle.day_records.specs.Items.{Item, Seen, Bad, item_at, place_after, items_from}

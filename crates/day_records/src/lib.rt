@@ -4,8 +4,9 @@
 pub mod day_file;
 pub mod fault;
 pub mod kind;
+pub mod misread;
 pub mod placed_record;
 pub mod reader;
 pub mod record;
 pub mod shape;
-pub mod whole;
+pub mod whole_file;

@@ -6,7 +6,8 @@ ghost use Rattle.day_records.specs.Items.{item_at};
 ghost use Rattle.day_records.specs.Kinds.{kind_for, spelled};
 ghost use Rattle.day_records.specs.Views.{item_as, told_as, items_left, Reads};
 
-use crate::fault::{FileFault, Misread};
+use crate::fault::FileFault;
+use crate::misread::Misread;
 use crate::placed_record::PlacedRecord;
 use crate::record::Record;
 use crate::shape::Shape;

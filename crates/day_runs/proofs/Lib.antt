@@ -1,3 +1,3 @@
 pub mod Ends
-pub mod Filled
+pub mod Overwritten
 pub mod Steps

@@ -35,16 +35,16 @@ told_by (End count ∷ ls) = told_by ls
 told_by (Register row ∷ ls) = told_by ls
 
 -- a list with others written into it from a place on, as many as there are places for
-abbrev pub filled : {X : Type 0} → List X → ℕ → List X → List X
-filled [] n xs = []
-filled (o ∷ os) (suc n) xs = o ∷ filled os n xs
-filled (o ∷ os) zero [] = o ∷ os
-filled (o ∷ os) zero (x ∷ xs) = x ∷ filled os zero xs
+abbrev pub overwritten : {X : Type 0} → List X → ℕ → List X → List X
+overwritten [] n xs = []
+overwritten (o ∷ os) (suc n) xs = o ∷ overwritten os n xs
+overwritten (o ∷ os) zero [] = o ∷ os
+overwritten (o ∷ os) zero (x ∷ xs) = x ∷ overwritten os zero xs
 
 -- the outcomes before and after, and the state at the end, of a day
 pub record RanDay (rows : List Row) (room : ℕ) (file : List ℕ) (old new : List (Result ℤ LineRefusal)) (left : State) : Type 0 where
   -- what came of each record is told in its place, as the listing tells it; places behind the records stay
-  pub told : new ≡ filled old 0 (told_by (lines_of rows room file))
+  pub told : new ≡ overwritten old 0 (told_by (lines_of rows room file))
   -- the state is the one that the plans of the calls leave, one after the other
   pub state : left ≡ state_after call_of (begin_of rows room file) (calls_of file)
   -- if the store was empty, the law holds after each call that the file asks for, also where some are refused

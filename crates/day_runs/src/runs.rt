@@ -2,7 +2,7 @@
 
 ghost use Rattle.std.specs.Prelude.{◌≡◌, List, ◌∷◌};
 ghost use Rattle.dayfile.specs.declared.line.Line.{Line as LineOf};
-ghost use Rattle.day_runs.specs.Days.{filled, told_by, RanDay, changes_of_day};
+ghost use Rattle.day_runs.specs.Days.{overwritten, told_by, RanDay, changes_of_day};
 
 use dayfile::day::Day;
 use dayfile::line::Line;
@@ -14,7 +14,7 @@ use registers::store::Store;
 /// answers the place that is next then.
 fn tell(outcomes: &mut [Result<i64, LineRefusal>], next: usize, line: Line) -> usize
     ensures { (ls : List LineOf) →
-        filled outcomes.new result (told_by ls) ≡ filled outcomes.old next (told_by (line ∷ ls)) }
+        overwritten outcomes.new result (told_by ls) ≡ overwritten outcomes.old next (told_by (line ∷ ls)) }
 {
     let Line::Record { outcome, .. } = line else {
         return next;

@@ -14,7 +14,7 @@ use Rattle.day_records.specs.declared.fault.FileFault.{FileFault}
 use Rattle.day_records.specs.declared.fault.FileFault.TheVariants.{CutShort}
 use Rattle.day_records.specs.declared.kind.RecordKind.{RecordKind}
 use Rattle.day_records.specs.declared.kind.RecordKind.TheVariants.{Admit, Open, Credit, Post, Buy, Sell, Withdraw, Trade, Debit}
-use Rattle.day_records.specs.Kinds.{fault_number}
+use Rattle.day_records.specs.Kinds.{fault_number, length_of}
 use Rattle.dayfile.specs.declared.refusal.LineRefusal.{LineRefusal}
 use Rattle.dayfile.specs.declared.refusal.LineRefusal.TheVariants.{Engine, File}
 
@@ -53,20 +53,20 @@ abbrev pub full_length : ℕ → List ℕ → Call → Option Call
 full_length n b c = if nat_le n (length b) then Some c else None
 
 -- fields that are cut short give no call
-abbrev pub whole : Option Call → Result Call FileFault
-whole o = ok_or o CutShort
+abbrev pub or_cut_short : Option Call → Result Call FileFault
+or_cut_short o = ok_or o CutShort
 
 -- the call that a record asks for
 abbrev pub call_for : RecordKind → List ℕ → Result Call FileFault
-call_for Admit b = whole (full_length 4 b (admit_in b))
-call_for Open b = whole (full_length 23 b (open_in b))
-call_for Credit b = whole (full_length 14 b (credit_in b))
-call_for Post b = whole (full_length 10 b (post_in b))
-call_for Buy b = whole (full_length 19 b (announce_in sides.Buy b))
-call_for Sell b = whole (full_length 19 b (announce_in sides.Sell b))
-call_for Withdraw b = whole (full_length 4 b (withdraw_in b))
-call_for Trade b = whole (full_length 20 b (trade_in b))
-call_for Debit b = whole (full_length 10 b (debit_in b))
+call_for Admit b = or_cut_short (full_length (length_of Admit) b (admit_in b))
+call_for Open b = or_cut_short (full_length (length_of Open) b (open_in b))
+call_for Credit b = or_cut_short (full_length (length_of Credit) b (credit_in b))
+call_for Post b = or_cut_short (full_length (length_of Post) b (post_in b))
+call_for Buy b = or_cut_short (full_length (length_of Buy) b (announce_in sides.Buy b))
+call_for Sell b = or_cut_short (full_length (length_of Sell) b (announce_in sides.Sell b))
+call_for Withdraw b = or_cut_short (full_length (length_of Withdraw) b (withdraw_in b))
+call_for Trade b = or_cut_short (full_length (length_of Trade) b (trade_in b))
+call_for Debit b = or_cut_short (full_length (length_of Debit) b (debit_in b))
 
 -- the number and the layer of a line's refusal
 abbrev pub line_number : LineRefusal → ℕ

@@ -4,7 +4,8 @@ ghost use Rattle.std.specs.Prelude.{◌≡◌, ◌++◌};
 ghost use Rattle.std.specs.Option.{ok_or};
 ghost use Rattle.byte_fields.specs.Fields.{bytes_of, meant_at};
 ghost use Rattle.day_records.specs.declared.fault.FileFault.TheVariants.{CutShort};
-ghost use Rattle.day_records.specs.Kinds.{kind_of, body_of};
+ghost use Rattle.day_records.specs.declared.kind.RecordKind.TheVariants.{Buy};
+ghost use Rattle.day_records.specs.Kinds.{kind_of, body_of, length_of};
 ghost use Rattle.dayfile.specs.Calls.{full_length, announce_in, call_for};
 
 use byte_fields::{Field, read};
@@ -25,10 +26,11 @@ fn field<T: Field>(bytes: &[u8], at: usize) -> Result<T, FileFault>
 }
 
 /// The announcement that mode and further fields ask for. Refuses (32) fields that are cut short.
+// purchases and sales have fields of the same length
 fn announcement(side: Side, mode: u8, rest: &[u8]) -> Result<Call, FileFault>
     ensures { result
         ≡ ok_or
-        (full_length 19 (bytes_of 1 mode ++ rest.now) (announce_in side (bytes_of 1 mode ++ rest.now)))
+        (full_length (length_of Buy) (bytes_of 1 mode ++ rest.now) (announce_in side (bytes_of 1 mode ++ rest.now)))
         CutShort }
 {
     Ok(Call::from(FullCall::Announce(Announcement {

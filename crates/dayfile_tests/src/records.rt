@@ -1,11 +1,12 @@
 //! Letters, records and what they ask for.
 
 use crate::support::{DAY, check, check_listing};
-use day_records::fault::{FileFault, Misread};
+use day_records::fault::FileFault;
+use day_records::misread::Misread;
 use day_records::placed_record::PlacedRecord;
 use day_records::record::Record;
 use day_records::shape::Shape;
-use day_records::whole::read_all;
+use day_records::whole_file::read_all;
 use dayfile::calls::call;
 use partial::call::Call;
 use std::test::Fail;

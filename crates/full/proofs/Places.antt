@@ -1,12 +1,12 @@
 -- Registers of different keys lie at different places.
-use Rattle.std.proofs.Common.{◌≡◌, ◌≢◌, ℕ, suc, ◌+◌, Bool, true, false, cond, ◌&&◌, eqb, List, [], ◌∷◌, map, Some, None, Ok, Err, Option, Result, sym, refl, ap, ◌∙◌, arith, eqb-true}
+use Rattle.std.proofs.Common.{◌≡◌, ◌≢◌, ℕ, suc, ◌+◌, Bool, true, false, cond, ◌&&◌, eqb, List, [], ◌∷◌, map, Some, None, Ok, Err, Option, Result, sym, refl, ap, subst, ◌∙◌, arith, eqb-true}
 use Rattle.std.proofs.lemmas.Bool.{and_parts}
 use Rattle.std.specs.List.{slice_get, AllByRecursion, AllPairs}
 use Rattle.std.specs.Option.{option_map}
 use Rattle.std.proofs.lemmas.List.Elements.{All-from_recursion}
 use Rattle.std.proofs.lemmas.List.Kept.{AllPairs-cons}
 use Rattle.seek.proofs.Cases.{no_case}
-use Rattle.seek.specs.Place.{place_of, on_by}
+use Rattle.seek.specs.Place.{place_of, on_by, passes}
 use Rattle.registers.specs.declared.key.Key.{Key}
 use Rattle.registers.specs.declared.row.Row.{Row}
 use Rattle.registers.specs.Registers.{same_key}
@@ -15,7 +15,7 @@ use Rattle.full.specs.declared.open_register.OpenRegister.{OpenRegister}
 use Rattle.plans.specs.declared.refusal.Refusal.{Refusal}
 use Rattle.full.specs.declared.trade_registers.TradeRegisters.{TradeRegisters}
 use Rattle.full.specs.declared.register_move.Move.{Move}
-use Rattle.plans.specs.Steps.{and_then}
+use Rattle.plans.specs.Steps.{and_then, ok_as}
 use Rattle.full.specs.OpenRegisters.{register_in, register_from, register_at, FiguresAt}
 use Rattle.full.specs.Blocks.{cash_key, holding_key}
 use Rattle.full.specs.Trades.{trade_registers_of, moves_of}
@@ -24,22 +24,43 @@ use Rattle.full.proofs.Swaps.{Apart, Standing}
 -- what a search found passes the test
 module _ {X : Type 0} (p : X → Bool) where
   -- one place further, if the first record does not pass
-  further : (y : X) (ys : List X) (i : ℕ) (x : X) (o : Option ℕ) → on_by 1 o ≡ Some i → slice_get (y ∷ ys) i ≡ Some x → ((j : ℕ) → o ≡ Some j → slice_get ys j ≡ Some x → p x ≡ true) → p x ≡ true
-  further y ys i x None h f rest = no_case (cc)
-  further y ys i x (Some j) h f rest =
+  further : (y : X) (ys : List X) (i : ℕ) (o : Option ℕ) → on_by 1 o ≡ Some i → ((j : ℕ) → o ≡ Some j → passes p (slice_get ys j) ≡ true) → passes p (slice_get (y ∷ ys) i) ≡ true
+  further y ys i None h rest = no_case (cc)
+  further y ys i (Some j) h rest =
       let s : suc j ≡ i = let k : 1 + j ≡ i = cc in omega arith in
-      rest j refl (ap (slice_get (y ∷ ys)) s ∙ f)
+      subst (λ (n : ℕ). passes p (slice_get (y ∷ ys) n) ≡ true) s (rest j refl)
 
-  first : (y : X) (ys : List X) (i : ℕ) (x : X) (b : Bool) → p y ≡ b → cond b (Some 0) (on_by 1 (place_of p ys)) ≡ Some i → slice_get (y ∷ ys) i ≡ Some x → ((j : ℕ) → place_of p ys ≡ Some j → slice_get ys j ≡ Some x → p x ≡ true) → p x ≡ true
-  first y ys i x true g e f rest =
+  first : (y : X) (ys : List X) (i : ℕ) (b : Bool) → p y ≡ b → cond b (Some 0) (on_by 1 (place_of p ys)) ≡ Some i → ((j : ℕ) → place_of p ys ≡ Some j → passes p (slice_get ys j) ≡ true) → passes p (slice_get (y ∷ ys) i) ≡ true
+  first y ys i true g e rest =
       let s : 0 ≡ i = cc in
-      let t : y ≡ x = let k : slice_get (y ∷ ys) 0 ≡ Some x = ap (slice_get (y ∷ ys)) s ∙ f in cc in
-      ap p (sym t) ∙ g
-  first y ys i x false g e f rest = further y ys i x (place_of p ys) e f rest
+      subst (λ (n : ℕ). passes p (slice_get (y ∷ ys) n) ≡ true) s g
+  first y ys i false g e rest = further y ys i (place_of p ys) e rest
 
+  found : (xs : List X) (i : ℕ) → place_of p xs ≡ Some i → passes p (slice_get xs i) ≡ true
+  found [] i e = no_case (cc)
+  found (y ∷ ys) i e = first y ys i (p y) refl e (λ j g. found ys j g)
+
+  -- so a record passes that is there, and one is there
   pub passes_at : (xs : List X) (i : ℕ) (x : X) → place_of p xs ≡ Some i → slice_get xs i ≡ Some x → p x ≡ true
-  passes_at [] i x e f = no_case (cc)
-  passes_at (y ∷ ys) i x e f = first y ys i x (p y) refl e f (λ j g h. passes_at ys j x g h)
+  passes_at xs i x e f = sym (ap (passes p) f) ∙ found xs i e
+
+  there : (xs : List X) (i : ℕ) → place_of p xs ≡ Some i → slice_get xs i ≡ None → ⊥
+  there xs i e f =
+      let t : false ≡ true = sym (ap (passes p) f) ∙ found xs i e in
+      no_case (cc)
+
+-- a register is open where its key is found
+module _ (rs : List Row) (k : Key) where
+  abbrev Opens : Result OpenRegister Refusal → Type 0
+  Opens h = ok_as {Y = Unit {0}} (λ (x : OpenRegister). tt) h ≡ Ok tt
+
+  open_in : (n : ℕ) (o : Option Row) → (o ≡ None → ⊥) → Opens (register_in n o)
+  open_in n None f = absurd (f refl)
+  open_in n (Some r) f = refl
+
+  pub open_where_found : (n : ℕ) → place_for k rs ≡ Some n → Opens (register_at rs k)
+  unfolding register_at
+  open_where_found n e = subst (λ (o : Option ℕ). Opens (register_from rs o)) (sym e) (open_in n (slice_get rs n) (there (λ x. same_key x.key k) rs n e))
 
 -- an open register is a row that bears its key
 pub record Stands (rs : List Row) (k : Key) (h : OpenRegister) : Type 0 where

@@ -2,7 +2,9 @@
 use Rattle.std.specs.Prelude.{ℕ, ◌/◌}
 use Rattle.registers.specs.declared.key.Key.{Key}
 use Rattle.full.specs.declared.keys.TheConstants.{ACCOUNTS_EACH}
+use Rattle.registers.specs.declared.kind.RegisterKind.TheVariants.{Cash, Holding, Participant}
 use Rattle.registers.specs.Amounts.{money_of, risk_of}
+use Rattle.registers.specs.Registers.{kind_number}
 use Rattle.full.specs.declared.side.Side.{Side}
 use Rattle.full.specs.declared.side.Side.TheVariants.{Buy, Sell}
 use Rattle.full.specs.declared.mode.Mode.{Mode}
@@ -12,13 +14,13 @@ use Rattle.full.specs.Orders.{Live}
 -- the keys of an account's cash, of its holding of a security, of a participant's limit, and of the limit
 -- of an account's participant
 abbrev pub cash_key : ℕ → Key
-cash_key code = record { kind = 1; code = code; security = 0 }
+cash_key code = record { kind = kind_number Cash; code = code; security = 0 }
 
 abbrev pub holding_key : ℕ → ℕ → Key
-holding_key code security = record { kind = 2; code = code; security = security }
+holding_key code security = record { kind = kind_number Holding; code = code; security = security }
 
 abbrev pub limit_key : ℕ → Key
-limit_key participant = record { kind = 3; code = participant; security = 0 }
+limit_key participant = record { kind = kind_number Participant; code = participant; security = 0 }
 
 abbrev pub participant_key : ℕ → Key
 participant_key account = limit_key (account / ACCOUNTS_EACH)

@@ -3,6 +3,8 @@ use Rattle.std.specs.Prelude.{ℕ, ◌+◌, if◌then◌else◌, not, ◌&&◌, 
 use Rattle.registers.specs.declared.key.Key.{Key}
 use Rattle.registers.specs.declared.row.Row.{Row}
 use Rattle.registers.specs.declared.fault.StoreFault.TheVariants as faults
+use Rattle.registers.specs.declared.kind.RegisterKind.TheVariants.{Cash, Holding}
+use Rattle.registers.specs.Registers.{kind_number}
 use Rattle.registers.specs.Stores.{place_for}
 use Rattle.registers.specs.Changes.{Add}
 use Rattle.plans.specs.declared.refusal.Refusal.{Refusal}
@@ -11,9 +13,10 @@ use Rattle.full.specs.declared.open_register.OpenRegister.{OpenRegister}
 use Rattle.registers.specs.declared.ranges.TheConstants.{MOST_RATIO}
 use Rattle.full.specs.declared.securities.TheConstants.{MOST_SECURITIES}
 use Rattle.full.specs.declared.announcement.Announcement.{Announcement}
+use Rattle.full.specs.declared.mode.Mode.TheVariants.{Full}
 use Rattle.full.specs.declared.opening.Opening.{Opening}
 use Rattle.full.specs.Orders.{Live, admitted_as}
-use Rattle.full.specs.Terms.{between, code_ok, security_ok, amount_ok, limit_ok}
+use Rattle.full.specs.Terms.{between, code_ok, security_ok, amount_ok, limit_ok, mode_number}
 use Rattle.full.specs.State.{State, Step, with_rows, with_securities, with_orders, with_last_order}
 use Rattle.full.specs.Checks.{PlacedOf, ready_of, found_of}
 use Rattle.plans.specs.Steps.{and_then, demand, or_refuse}
@@ -37,8 +40,8 @@ admit_of s security ratio =
 unfoldable pub opening_key : Opening → Option Key
 opening_key o =
     if code_ok o.code && (limit_ok o.limit && o.margin == 0)
-    then (if o.kind == 1 && o.security == 0 then Some (cash_key o.code)
-    else (if o.kind == 2 && security_ok o.security then Some (holding_key o.code o.security) else None))
+    then (if o.kind == kind_number Cash && o.security == 0 then Some (cash_key o.code)
+    else (if o.kind == kind_number Holding && security_ok o.security then Some (holding_key o.code o.security) else None))
     else None
 
 -- a register as it begins: blocked and third figure 0
@@ -60,7 +63,7 @@ enter_of s r =
 unfoldable pub open_of : State → Opening → Step
 open_of s o =
     and_then (or_refuse (opening_key o) BadValue) (λ k.
-    demand (k.kind == 1 || is_some (admitted_as s.securities k.security)) NotAdmitted
+    demand (k.kind == kind_number Cash || is_some (admitted_as s.securities k.security)) NotAdmitted
     (enter_of s (beginning k o.limit)))
 
 -- the register that a code and a security, or 0 for cash, name
@@ -77,7 +80,7 @@ credit_of s code security amount =
 
 -- the register that covers an order with full collateral, of the account's two
 abbrev pub cover_of : Live → OpenRegister → OpenRegister → OpenRegister
-cover_of o cash holding = if (key_of o).kind == 1 then cash else holding
+cover_of o cash holding = if (key_of o).kind == kind_number Cash then cash else holding
 
 -- both have to be open
 unfoldable pub cover_at : List Row → Live → Result OpenRegister Refusal
@@ -99,7 +102,7 @@ placed_of s r h =
 -- announce: 5, 8, 7, 9, 6, 25, 10; answers the block. This level answers 5 to partial mode.
 unfoldable pub announce_of : State → Announcement → Step
 announce_of s a =
-    demand (a.mode == 1) BadValue
+    demand (a.mode == mode_number Full) BadValue
     (and_then (ready_of s.securities s.orders s.last_order a) (λ r.
     and_then (cover_at s.rows r.order) (λ h.
     placed_of s r h)))

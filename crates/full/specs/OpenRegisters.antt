@@ -7,7 +7,8 @@ use Rattle.registers.specs.declared.key.Key.{Key}
 use Rattle.registers.specs.declared.figures.Figures.{Figures}
 use Rattle.registers.specs.declared.row.Row.{Row}
 use Rattle.registers.specs.declared.fault.StoreFault.TheVariants.{NotOpen, OutOfRange}
-use Rattle.registers.specs.Registers.{in_range}
+use Rattle.registers.specs.declared.kind.RegisterKind.TheVariants.{Cash}
+use Rattle.registers.specs.Registers.{in_range, kind_number}
 use Rattle.registers.specs.Stores.{place_for, put_row}
 use Rattle.registers.specs.Changes.{Change, Put}
 use Rattle.full.specs.declared.open_register.OpenRegister.{OpenRegister}
@@ -44,7 +45,7 @@ with_figures_of h f = record h { figures = f }
 -- covered: the limit less the raised blocked figure leaves the floor, which is the reserve for cash
 -- and 0 elsewhere
 abbrev pub floor_of : ℕ → Key → ℕ
-floor_of reserve k = if k.kind == 1 then reserve else 0
+floor_of reserve k = if k.kind == kind_number Cash then reserve else 0
 
 unfoldable pub covered : Figures → ℕ → ℕ → Bool
 covered f units floor = int_le (pos floor) (f.limit -ℤ (f.blocked +ℤ pos units))

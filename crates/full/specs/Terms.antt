@@ -6,8 +6,8 @@ use Rattle.full.specs.declared.mode.Mode.{Mode}
 use Rattle.full.specs.declared.mode.Mode.TheVariants.{Full, Partial}
 use Rattle.full.specs.declared.announcement.Announcement.{Announcement}
 use Rattle.full.specs.declared.deal.Deal.{Deal}
-use Rattle.full.specs.declared.announcement.Terms.{Terms}
-use Rattle.full.specs.declared.deal.Bargain.{Bargain}
+use Rattle.full.specs.declared.terms.Terms.{Terms}
+use Rattle.full.specs.declared.bargain.Bargain.{Bargain}
 
 abbrev pub between : ℕ → ℕ → ℕ → Bool
 between least most n = nat_le least n && nat_le n most
@@ -29,9 +29,13 @@ amount_ok n = between 1 MOST_LIMIT n
 unfoldable pub limit_ok : ℕ → Bool
 limit_ok n = nat_le n MOST_LIMIT
 
--- mode 1 is full collateral, mode 2 partial
+-- the number of each mode, and the mode of a number
+abbrev pub mode_number : Mode → ℕ
+mode_number Full = 1
+mode_number Partial = 2
+
 abbrev pub mode_of : ℕ → Option Mode
-mode_of n = if n == 1 then Some Full else (if n == 2 then Some Partial else None)
+mode_of n = if n == mode_number Full then Some Full else (if n == mode_number Partial then Some Partial else None)
 
 -- an announcement's numbers, if all of its arguments lie in their ranges
 pub record TermsOf : Type 0 where

@@ -1,5 +1,5 @@
 -- What a trade does: its checks in their order, the registers that it moves, and the state it leaves.
-use Rattle.std.specs.Prelude.{ℕ, if◌then◌else◌, List, [], ◌∷◌, ◌++◌, pos, ◌+ℤ◌, ◌-ℤ◌, None, Ok, Option, Result, ◌==◌, nat_lt, slice_index_or, slice_set}
+use Rattle.std.specs.Prelude.{ℕ, if◌then◌else◌, List, [], ◌∷◌, ◌++◌, pos, None, Ok, Option, Result, ◌==◌, nat_lt, slice_index_or, slice_set}
 use Rattle.std.specs.List.{list_all}
 use Rattle.registers.specs.declared.figures.Figures.{Figures}
 use Rattle.registers.specs.declared.row.Row.{Row}

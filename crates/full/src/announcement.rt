@@ -1,22 +1,18 @@
 //! The arguments of announcements.
 
 ghost use Rattle.std.specs.Prelude.{◌≡◌};
-ghost use Rattle.plans.specs.declared.refusal.Refusal.TheVariants.{BadValue};
-ghost use Rattle.plans.specs.Steps.{ok_as, or_refuse};
+ghost use Rattle.plans.specs.Steps.{ok_as};
 ghost use Rattle.full.specs.Orders.{list_of, slots_of};
-ghost use Rattle.full.specs.Terms.{terms_of, terms_as};
 ghost use Rattle.full.specs.Checks.{ready_of};
 ghost use Rattle.full.specs.Views.{placed_as};
 
 use crate::book::Book;
-use crate::mode::Mode;
 use crate::order::Order;
 use crate::placed_order::PlacedOrder;
-use crate::ranges::{code_ok, number_ok, security_ok};
 use crate::securities::Securities;
 use crate::side::Side;
+use crate::terms::Terms;
 use plans::refusal::Refusal;
-use registers::ranges::{Price, Quantity};
 
 /// The arguments of an announcement: mode 1 is full collateral, mode 2 partial; the price counts
 /// ten-thousandths of a ruble.
@@ -30,39 +26,6 @@ pub struct Announcement {
     pub security: u16,
     pub quantity: u32,
     pub price: u32,
-}
-
-/// An announcement's numbers in their ranges.
-#[derive(Clone, Copy, PartialEq, Eq, Debug)]
-pub struct Terms {
-    pub mode: Mode,
-    pub quantity: Quantity,
-    pub price: Price,
-}
-
-/// An announcement's numbers. Refuses (5) an argument outside its range.
-impl TryFrom<Announcement> for Terms {
-    type Error = Refusal;
-
-    ghost try_from_gives = { λ a r. ok_as terms_as r ≡ or_refuse (terms_of a) BadValue };
-
-    #[tactic(auto, unfolding(crate::specs::Terms::terms_of))]
-    fn try_from(announced: Announcement) -> Result<Terms, Refusal> {
-        let mode = Mode::try_from(announced.mode)?;
-        if !number_ok(announced.number)
-            || !code_ok(announced.account)
-            || !security_ok(announced.security)
-        {
-            return Err(Refusal::BadValue);
-        }
-        let quantity = Quantity::new(announced.quantity).ok_or(Refusal::BadValue)?;
-        let price = Price::new(announced.price).ok_or(Refusal::BadValue)?;
-        Ok(Terms {
-            mode,
-            quantity,
-            price,
-        })
-    }
 }
 
 impl Announcement {

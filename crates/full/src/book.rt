@@ -2,15 +2,16 @@
 
 ghost use Rattle.std.specs.Prelude.{◌≡◌, ◌<◌, length, replicate, IfSome, Some, None, slice_index_or, slice_set};
 ghost use Rattle.plans.specs.Steps.{ok_as};
-ghost use Rattle.full.specs.Orders.{slot_of, slots_of, live_of, has_number, is_free, place_of_order, free_place, lowered};
+ghost use Rattle.full.specs.Orders.{slots_of, live_of, place_of_order, free_place, lowered};
 ghost use Rattle.full.specs.Checks.{found_of};
 ghost use Rattle.full.specs.Views.{placed_as};
 
+use crate::free::Free;
 use crate::order::Order;
+use crate::order_number::OrderNumber;
 use crate::placed_order::PlacedOrder;
 use plans::refusal::Refusal;
 use registers::ranges::Quantity;
-use seek::Keyed;
 
 /// How many orders may live.
 pub const MOST_ORDERS: usize = 256;
@@ -22,30 +23,6 @@ pub struct Book {
     // an array of places, which are freed and taken again: there is no heap for a map
     pub orders: [Option<Order>; MOST_ORDERS],
     pub last_order: u32,
-}
-
-/// An order's number, as a key of the book.
-#[derive(Clone, Copy, PartialEq, Eq, Debug)]
-pub struct OrderNumber(pub u32);
-
-impl Keyed<OrderNumber> for Option<Order> {
-    ghost bears = { λ o k. has_number k.0 (slot_of o) };
-
-    fn is_at(&self, key: OrderNumber) -> bool {
-        self.is_some_and(|order| order.number == key.0)
-    }
-}
-
-/// The key that a free place of the book bears.
-#[derive(Clone, Copy, PartialEq, Eq, Debug)]
-pub struct Free;
-
-impl Keyed<Free> for Option<Order> {
-    ghost bears = { λ o _. is_free (slot_of o) };
-
-    fn is_at(&self, _key: Free) -> bool {
-        self.is_none()
-    }
 }
 
 impl Book {

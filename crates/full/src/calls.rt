@@ -12,7 +12,7 @@ use crate::announcement::Announcement;
 use crate::engine::Engine;
 use crate::keys::{cash_key, holding_key};
 use crate::mode::Mode;
-use crate::open_register::{OpenRegister, open_register, put_register};
+use crate::open_register::{OpenRegister, ask_open, open_register, put_register};
 use crate::opening::Opening;
 use crate::order::Order;
 use crate::placed_order::PlacedOrder;
@@ -129,12 +129,15 @@ fn cover<S: Store>(store: &mut S, order: Order) -> Result<OpenRegister, Refusal>
     ensures stands { IfOk result (λ h. FiguresAt (S.Store.rows store.old) h.place h.figures) }
     ensures asked { OnlyAsked S.Store.rows S.Store.capacity S.Store.made store.old store.new }
 {
-    let cash = open_register(store, cash_key(order.account))?;
-    let holding = open_register(store, holding_key(order.account, order.security))?;
+    let cash = cash_key(order.account);
+    let holding = holding_key(order.account, order.security);
     if order.block_key().is(RegisterKind::Cash) {
-        Ok(cash)
+        let register = open_register(store, cash)?;
+        ask_open(store, holding)?;
+        Ok(register)
     } else {
-        Ok(holding)
+        ask_open(store, cash)?;
+        open_register(store, holding)
     }
 }
 

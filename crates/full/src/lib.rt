@@ -2,12 +2,14 @@
 #![tactic(auto)]
 
 pub mod announcement;
+pub mod bargain;
 pub mod book;
 pub mod call;
 pub mod calls;
 pub mod cover;
 pub mod deal;
 pub mod engine;
+pub mod free;
 pub mod guard;
 pub mod keys;
 pub mod mode;
@@ -15,6 +17,7 @@ pub mod moves;
 pub mod open_register;
 pub mod opening;
 pub mod order;
+pub mod order_number;
 pub mod pair;
 pub mod placed_order;
 pub mod putting;
@@ -22,7 +25,9 @@ pub mod ranges;
 pub mod register_move;
 pub mod securities;
 pub mod security;
+pub mod security_number;
 pub mod settings;
 pub mod side;
+pub mod terms;
 pub mod trade_registers;
 pub mod trading;

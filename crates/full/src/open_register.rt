@@ -2,7 +2,7 @@
 
 ghost use Rattle.std.specs.Prelude.{◌≡◌, ◌≢◌, pos, ◌-ℤ◌, IfOk, Ok};
 ghost use Rattle.plans.specs.declared.refusal.Refusal.TheVariants.{LeavesRange};
-ghost use Rattle.plans.specs.Steps.{demand};
+ghost use Rattle.plans.specs.Steps.{demand, ok_as};
 ghost use Rattle.registers.specs.Changes.{OnlyAsked};
 ghost use Rattle.registers.specs.Registers.{in_range};
 ghost use Rattle.registers.specs.Stores.{put_row};
@@ -42,6 +42,16 @@ pub fn open_register<S: Store>(store: &mut S, key: Key) -> Result<OpenRegister, 
         place,
         figures: row.figures,
     })
+}
+
+/// Refuses (6) a key of which no register is open, and reads no row; the store is as it stood.
+#[tactic(auto, using(crate::proofs::Places::open_where_found), unfolding(crate::specs::OpenRegisters::register_at))]
+pub(crate) fn ask_open<S: Store>(store: &mut S, key: Key) -> Result<(), Refusal>
+    ensures answer { result ≡ ok_as (λ _. tt) (register_at (S.Store.rows store.old) key) }
+    ensures asked { OnlyAsked S.Store.rows S.Store.capacity S.Store.made store.old store.new }
+{
+    store.find(key).ok_or(StoreFault::NotOpen)?;
+    Ok(())
 }
 
 /// Puts new figures at the place of a register as it was read, if they differ from those; a place

@@ -6,8 +6,9 @@ ghost use Rattle.full.specs.Orders.{slots_of};
 ghost use Rattle.full.specs.Checks.{matched_of, pair_of};
 ghost use Rattle.full.specs.Views.{pair_as};
 
+use crate::bargain::Bargain;
 use crate::book::Book;
-use crate::deal::{Bargain, Deal};
+use crate::deal::Deal;
 use crate::order::Order;
 use crate::side::Side;
 use plans::refusal::Refusal;
@@ -31,6 +32,8 @@ impl Pair {
     /// account (15), a quantity above a rest (16), and a price above the buy price or below the sell
     /// price (17).
     #[tactic(auto, unfolding(crate::specs::Checks::pair_of))]
+    // inlined: two orders are many words, which a call copies
+    #[inline(always)]
     pub fn of(deal: Deal, book: &Book, last_trade: u32) -> Result<Pair, Refusal>
         ensures answer { ok_as pair_as result ≡ pair_of (slots_of book.now) last_trade deal }
         ensures apart { IfOk result (λ p. p.buy.account ≢ p.sell.account) }

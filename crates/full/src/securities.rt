@@ -6,7 +6,8 @@ ghost use Rattle.plans.specs.declared.refusal.Refusal.TheVariants.{SecuritiesFul
 ghost use Rattle.plans.specs.Steps.{demand};
 ghost use Rattle.full.specs.Orders.{list_of, admitted_of, admitted_as};
 
-use crate::security::{Security, SecurityNumber};
+use crate::security::Security;
+use crate::security_number::SecurityNumber;
 use arrayvec::ArrayVec;
 use plans::refusal::Refusal;
 use registers::ranges::Ratio;

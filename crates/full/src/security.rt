@@ -1,9 +1,8 @@
 //! Admitted securities.
 
-ghost use Rattle.std.specs.Prelude.{◌≡◌, ◌==◌};
+ghost use Rattle.std.specs.Prelude.{◌≡◌};
 
 use registers::ranges::Ratio;
-use seek::Keyed;
 
 /// An admitted security and its market risk ratio.
 #[derive(Clone, Copy, PartialEq, Eq, Debug)]
@@ -22,17 +21,5 @@ impl Default for Security {
             number: 0,
             ratio: Ratio { value: 1 },
         }
-    }
-}
-
-/// A security's number, as a key of the list of securities.
-#[derive(Clone, Copy, PartialEq, Eq, Debug)]
-pub struct SecurityNumber(pub u16);
-
-impl Keyed<SecurityNumber> for Security {
-    ghost bears = { λ s k. (s.number == k.0) };
-
-    fn is_at(&self, key: SecurityNumber) -> bool {
-        self.number == key.0
     }
 }

@@ -27,10 +27,16 @@ pub struct TradeRegisters {
     pub seller_holding: OpenRegister,
 }
 
+// inlined, here and below: what is handed over are many words, which a call copies
+#[inline(always)]
 fn all_in(figures: [Figures; 4]) -> bool
     ensures { result ≡ list_all in_range figures }
 {
-    figures.iter().all(|f| f.in_range())
+    let [buyer_cash, seller_cash, buyer_holding, seller_holding] = figures;
+    buyer_cash.in_range()
+        && seller_cash.in_range()
+        && buyer_holding.in_range()
+        && seller_holding.in_range()
 }
 
 /// The registers of a trade with full collateral. Refuses (6) where one is not open; the store is as it
@@ -61,6 +67,7 @@ impl TradeRegisters {
     /// Where the registers end. Refuses figures out of range (25), and figures that would leave it (26),
     /// each over all four.
     #[tactic(auto, unfolding(crate::specs::Trades::settle_of))]
+    #[inline(always)]
     fn settle(self, quantity: Quantity, value: Amount, block: Amount) -> Result<[Move; 4], Refusal>
         ensures answer { result ≡ settle_of self quantity.value value.units block.units }
         ensures moves { IfOk result (λ m. m ≡ moves_of self quantity.value value.units block.units) }

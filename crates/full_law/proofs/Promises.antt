@@ -6,7 +6,8 @@ use Rattle.std.specs.Int.{int_min}
 use Rattle.registers.specs.declared.key.Key.{Key}
 use Rattle.registers.specs.declared.figures.Figures.{Figures}
 use Rattle.registers.specs.declared.row.Row.{Row}
-use Rattle.registers.specs.Registers.{same_key}
+use Rattle.registers.specs.declared.kind.RegisterKind.TheVariants.{Cash, Holding}
+use Rattle.registers.specs.Registers.{kind_number, same_key}
 use Rattle.full.specs.Orders.{Live}
 use Rattle.full.specs.State.{State}
 use Rattle.full_law.specs.Lists.{find_by}
@@ -25,12 +26,12 @@ Rising (n ∷ ns) = AllByRecursion (λ (m : ℕ). n < m) ns × Rising ns
 -- how far a blocked figure may be off: not at all for securities, else by one for each trade that left a
 -- rest
 abbrev pub slack_of : Key → ℕ → ℕ
-slack_of k trades = if k.kind == 2 then 0 else trades
+slack_of k trades = if k.kind == kind_number Holding then 0 else trades
 
 -- what a limit, less its blocked figure, never falls below: the smaller of opening limit and reserve for
 -- cash, 0 for securities; a participant's limit may
 abbrev pub base_of : Key → ℕ → ℕ → Option ℤ
-base_of k opening reserve = if k.kind == 1 then Some (int_min (pos opening) (pos reserve)) else (if k.kind == 2 then Some (pos 0) else None)
+base_of k opening reserve = if k.kind == kind_number Cash then Some (int_min (pos opening) (pos reserve)) else (if k.kind == kind_number Holding then Some (pos 0) else None)
 
 abbrev pub Above : Option ℤ → ℤ → Type 0
 Above None z = Unit {0}

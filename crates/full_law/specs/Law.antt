@@ -3,7 +3,8 @@ use Rattle.std.specs.Prelude.{◌≡◌, ◌≢◌, ℕ, ◌+◌, ◌≤◌, tru
 use Rattle.std.specs.List.{slice_get}
 use Rattle.std.specs.Int.{int_min}
 use Rattle.registers.specs.declared.row.Row.{Row}
-use Rattle.registers.specs.Registers.{same_key}
+use Rattle.registers.specs.declared.kind.RegisterKind.TheVariants.{Cash, Holding}
+use Rattle.registers.specs.Registers.{kind_number, same_key}
 use Rattle.full.specs.Orders.{Live, has_number}
 use Rattle.full.specs.State.{State}
 use Rattle.full_law.specs.Lists.{find_by, total}
@@ -47,8 +48,8 @@ pub record Law (reserve : ℕ) (t : Tally) (s : State) : Type 0 where
       (r.figures.blocked ≤ℤ pos (o.blocked + live_blocks o.key t.notes + trades_leaving_rest_on o.key t.trades_leaving_rest))
       × (pos (o.blocked + live_blocks o.key t.notes) ≤ℤ (r.figures.blocked +ℤ pos (trades_leaving_rest_on o.key t.trades_leaving_rest)))
   -- securities agree exactly, and no securities limit is below its blocked figure
-  pub securities : (i : ℕ) (r : Row) (o : Opened) → slice_get s.rows i ≡ Some r → slice_get t.opened i ≡ Some o → o.key.kind ≡ 2 →
+  pub securities : (i : ℕ) (r : Row) (o : Opened) → slice_get s.rows i ≡ Some r → slice_get t.opened i ≡ Some o → o.key.kind ≡ kind_number Holding →
       (r.figures.blocked ≡ pos (o.blocked + live_blocks o.key t.notes)) × (r.figures.blocked ≤ℤ r.figures.limit)
   -- no cash limit is below the smaller of its opening limit and the reserve, but for one kopeck for each such time
-  pub cash : (i : ℕ) (r : Row) (o : Opened) → slice_get s.rows i ≡ Some r → slice_get t.opened i ≡ Some o → o.key.kind ≡ 1 →
+  pub cash : (i : ℕ) (r : Row) (o : Opened) → slice_get s.rows i ≡ Some r → slice_get t.opened i ≡ Some o → o.key.kind ≡ kind_number Cash →
       int_min (pos o.limit) (pos reserve) ≤ℤ (r.figures.limit +ℤ pos (trades_leaving_rest_on o.key t.trades_leaving_rest))

@@ -1,7 +1,7 @@
 //! A market to trade in: a buyer, a seller, five orders and one trade.
 
 use crate::support::{
-    SECURITY, Step, Stored, admit, buy, cash, figures, holding, order, sell, withdraw,
+    Expected, SECURITY, Stored, admit, buy, cash, figures, holding, order, sell, withdraw,
 };
 use full::announcement::Announcement;
 use full::call::Call;
@@ -27,7 +27,7 @@ pub const GOOD: Deal = Deal {
 };
 
 /// Five registers, five orders, and a trade of 1 of the buyer's 100 under number 7.
-pub(crate) fn prepared() -> [Step; 13] {
+pub(crate) fn prepared() -> [Expected; 13] {
     let other = Announcement {
         security: OTHER,
         ..order(Side::Sell, 3, SELLER, 1, 9_800)
@@ -55,7 +55,7 @@ pub(crate) fn prepared() -> [Step; 13] {
 }
 
 /// The good deal, which ends the buyer's order and leaves 50 of the seller's 150 to withdraw.
-pub(crate) fn finishing() -> [Step; 3] {
+pub(crate) fn finishing() -> [Expected; 3] {
     [
         (Call::Trade(GOOD), Ok(9_801)),
         (withdraw(1), Err(11)),

@@ -1,12 +1,12 @@
 //! The numbers of orders and trades, from 1 to 4,294,967,295.
 
 use crate::support::{
-    SECURITY, Step, admit, buy, cash, check_over_table, holding, sell, trade, withdraw,
+    Expected, SECURITY, admit, buy, cash, check_over_table, holding, sell, trade, withdraw,
 };
 use registers::row::BLANK;
 
 /// The security, and cash and a holding for a buyer (701) and a seller (802), the cash of both first.
-fn beginning() -> [Step; 5] {
+fn beginning() -> [Expected; 5] {
     [
         (admit(SECURITY, 1_000), Ok(1)),
         (cash(701, 1_000), Ok(1)),

@@ -1,8 +1,8 @@
 //! Figures at the ends of their ranges, as an image may hold them.
 
 use crate::support::{
-    RESERVE, SECURITY, Step, Stored, admit, buy, check, check_rows, credit, figures, make, sell,
-    trade, withdraw,
+    Expected, RESERVE, SECURITY, Stored, admit, buy, check, check_rows, credit, figures, make,
+    sell, trade, withdraw,
 };
 use full::engine::Engine;
 use full::keys::{cash_key, holding_key};
@@ -23,7 +23,7 @@ fn check_over_image(
     rt: &impl Abort,
     bytes: &mut [u8],
     rows: &[Row],
-    steps: &[Step],
+    steps: &[Expected],
     left: &[Stored],
 ) {
     check(rt, image::format(bytes), Ok(()));
@@ -88,7 +88,7 @@ fn check_paid(
     rt: &impl Abort,
     buyer_cash: Figures,
     seller_cash: Figures,
-    steps: &[Step],
+    steps: &[Expected],
     left: &[Stored],
 ) {
     let rows = [

@@ -24,7 +24,7 @@ pub const RESERVE: u16 = 200;
 pub const SECURITY: u16 = 5;
 
 /// A call, and what it should answer, or the number of its refusal: the rules give numbers, and tests hold to them.
-pub type Step = (Call, Result<i64, u8>);
+pub type Expected = (Call, Result<i64, u8>);
 
 /// A place of a store, and the figures that should stand there.
 pub type Stored = (usize, Figures);
@@ -36,7 +36,7 @@ pub(crate) fn check<T: Copy + PartialEq + Debug>(rt: &impl Abort, found: T, expe
 }
 
 /// Makes calls in their order, and compares each answer with what is expected.
-pub(crate) fn make<S: Store>(rt: &impl Abort, engine: &mut Engine<S>, steps: &[Step]) {
+pub(crate) fn make<S: Store>(rt: &impl Abort, engine: &mut Engine<S>, steps: &[Expected]) {
     for (place, (call, expected)) in steps.iter().enumerate() {
         let answer = engine.carry_out(*call).map_err(|refusal| refusal.number());
         assert_eq!(rt; answer, *expected, "call {place}");
@@ -138,7 +138,7 @@ pub(crate) fn trade(number: u32, quantity: u32, price: u32) -> Call {
 
 /// The security, and cash and a holding for a buyer (701), who has the money, and a seller (802), who
 /// has the pieces.
-pub(crate) fn opened(money: u64, pieces: u64) -> [Step; 5] {
+pub(crate) fn opened(money: u64, pieces: u64) -> [Expected; 5] {
     [
         (admit(SECURITY, 1_000), Ok(1)),
         (cash(701, money), Ok(1)),
@@ -153,8 +153,8 @@ pub(crate) fn opened(money: u64, pieces: u64) -> [Step; 5] {
 pub(crate) fn check_over_table(
     rt: &impl Abort,
     table: &mut [Row],
-    opened: &[Step],
-    steps: &[Step],
+    opened: &[Expected],
+    steps: &[Expected],
     left: &[Stored],
 ) {
     let room = table.len();

@@ -14,9 +14,9 @@ use Rattle.hex_source.specs.declared.fault.SourceError.TheVariants.{Misspelled, 
 use Rattle.hex_source.specs.declared.letters.Sign.{Sign}
 use Rattle.hex_source.specs.declared.letters.Sign.TheVariants as signs
 use Rattle.hex_source.specs.declared.standing.Standing.TheVariants as standings
-use Rattle.hex_source.specs.declared.standing.Step.TheVariants.{Goes, Fails}
+use Rattle.hex_source.specs.declared.standing.Effect.TheVariants.{Goes, Fails}
 use Rattle.hex_source.specs.Letters.{is_hex, sign_of}
-use Rattle.hex_source.specs.Spelling.{step_of, fault_in, in_front, line_behind, behind, spelled_from, spelled, IsFaultOf, IsOutOfMemory, IsThatFault}
+use Rattle.hex_source.specs.Spelling.{effect_of, fault_in, in_front, line_behind, behind, spelled_from, spelled, IsFaultOf, IsOutOfMemory, IsThatFault}
 use Rattle.hex_source.specs.Pieces.{Piece, Pair, Blank, Tab, CarriageReturn, LineFeed, Remark, IsPiece, written, bytes_in, IsLastRemark, EndsGroup, BeginsWith, Stray, StrayInByte, Half, HalfAtEnd, IsLaidOut, BreaksOff}
 use Rattle.hex_source.proofs.Letterwise.{behind-none, spelled-goes, spelled-gives, spelled-fails}
 
@@ -38,13 +38,13 @@ feeds-other : (letter : ℕ) (letters : List ℕ) → letter ≢ 10 → feeds (l
 feeds-other letter letters ne = rw (sum_by-cons, ne_eqb letter 10 ne) (omega arith)
 
 -- in a remark all letters but the line feed mean nothing
-stays_by : (hex blank hash : Bool) (letter value : ℕ) → step_of standings.Remark letter (if hex then signs.Digit value else if blank then signs.Blank else if false then signs.LineEnd else if hash then signs.Hash else signs.Other) ≡ Goes standings.Remark
+stays_by : (hex blank hash : Bool) (letter value : ℕ) → effect_of standings.Remark letter (if hex then signs.Digit value else if blank then signs.Blank else if false then signs.LineEnd else if hash then signs.Hash else signs.Other) ≡ Goes standings.Remark
 stays_by true blank hash letter value = refl
 stays_by false true hash letter value = refl
 stays_by false false true letter value = refl
 stays_by false false false letter value = refl
 
-stays : (letter : ℕ) → letter ≢ 10 → step_of standings.Remark letter (sign_of letter) ≡ Goes standings.Remark
+stays : (letter : ℕ) → letter ≢ 10 → effect_of standings.Remark letter (sign_of letter) ≡ Goes standings.Remark
 stays letter ne = rw (ne_eqb letter 10 ne) (stays_by (is_hex letter) (letter == 32 || letter == 9 || letter == 13) (letter == 35) letter (digit_value letter))
 
 spelled-remark : (letters : List ℕ) (line : ℕ) (text : List ℕ) → All (λ letter. letter ≢ 10) letters → spelled_from standings.Remark line (letters ++ (10 ∷ text)) ≡ spelled_from standings.Between (line + 1) text
@@ -69,13 +69,13 @@ feeds-remark (letter ∷ letters) text h =
 -- the two digits of a byte
 spelled-first_digit : (line high : ℕ) (text : List ℕ) → IsTrue (is_hex high) → spelled_from standings.Between line (high ∷ text) ≡ spelled_from (standings.Half (digit_value high)) line text
 spelled-first_digit line high text h =
-    spelled-goes standings.Between (standings.Half (digit_value high)) line high text (ap (λ (s : Sign). step_of standings.Between high s) (sign_of-hex high h))
+    spelled-goes standings.Between (standings.Half (digit_value high)) line high text (ap (λ (s : Sign). effect_of standings.Between high s) (sign_of-hex high h))
     ∙ ap (λ (n : ℕ). spelled_from (standings.Half (digit_value high)) n text) (line_behind-other high line (hex_is_no_feed high h))
 
 pub spelled-pair : (line high low : ℕ) (text : List ℕ) → IsTrue (is_hex high) → IsTrue (is_hex low) → spelled_from standings.Between line (high ∷ low ∷ text) ≡ in_front (16 * digit_value high + digit_value low) (spelled_from standings.Between line text)
 spelled-pair line high low text h k =
     spelled-first_digit line high (low ∷ text) h
-    ∙ (spelled-gives (standings.Half (digit_value high)) (16 * digit_value high + digit_value low) line low text (ap (λ (s : Sign). step_of (standings.Half (digit_value high)) low s) (sign_of-hex low k))
+    ∙ (spelled-gives (standings.Half (digit_value high)) (16 * digit_value high + digit_value low) line low text (ap (λ (s : Sign). effect_of (standings.Half (digit_value high)) low s) (sign_of-hex low k))
     ∙ ap (λ (n : ℕ). in_front (16 * digit_value high + digit_value low) (spelled_from standings.Between n text)) (line_behind-other low line (hex_is_no_feed low k)))
 
 in_front-behind : (byte : ℕ) (bytes : List ℕ) (r : Result (List ℕ) Misspelling) → in_front byte (behind bytes r) ≡ behind (byte ∷ bytes) r
@@ -130,7 +130,7 @@ spelled-laid_out text bytes laid =
     ∙ ap (λ (l : List ℕ). Ok l) (append-nil (bytes_in laid.pieces) ∙ sym laid.spelled)))
 
 -- a fault is met where the letters begin with it
-half_by : (value letter : ℕ) (sign : Sign) → EndsGroup sign → step_of (standings.Half value) letter sign ≡ Fails HalfByte
+half_by : (value letter : ℕ) (sign : Sign) → EndsGroup sign → effect_of (standings.Half value) letter sign ≡ Fails HalfByte
 half_by value letter (signs.Digit low) h = absurd h
 half_by value letter signs.Blank h = refl
 half_by value letter signs.LineEnd h = refl
@@ -139,10 +139,10 @@ half_by value letter signs.Other h = absurd h
 
 spelled-begins : (rest : List ℕ) (fault : Fault) (line : ℕ) → BeginsWith rest fault → spelled_from standings.Between line rest ≡ fault_in line fault
 spelled-begins _ _ line (Stray letter more h) =
-    spelled-fails standings.Between (NoDigit letter) line letter more (ap (λ (s : Sign). step_of standings.Between letter s) h)
+    spelled-fails standings.Between (NoDigit letter) line letter more (ap (λ (s : Sign). effect_of standings.Between letter s) h)
 spelled-begins _ _ line (StrayInByte high letter more h k) =
     spelled-first_digit line high (letter ∷ more) h
-    ∙ spelled-fails (standings.Half (digit_value high)) (NoDigit letter) line letter more (ap (λ (s : Sign). step_of (standings.Half (digit_value high)) letter s) k)
+    ∙ spelled-fails (standings.Half (digit_value high)) (NoDigit letter) line letter more (ap (λ (s : Sign). effect_of (standings.Half (digit_value high)) letter s) k)
 spelled-begins _ _ line (Half high letter more h k) =
     spelled-first_digit line high (letter ∷ more) h
     ∙ spelled-fails (standings.Half (digit_value high)) HalfByte line letter more (half_by (digit_value high) letter (sign_of letter) k)

@@ -9,24 +9,24 @@ use Rattle.hex_source.specs.declared.letters.Sign.{Sign}
 use Rattle.hex_source.specs.declared.letters.Sign.TheVariants.{Digit, Blank, LineEnd, Hash, Other}
 use Rattle.hex_source.specs.declared.standing.Standing.{Standing}
 use Rattle.hex_source.specs.declared.standing.Standing.TheVariants.{Between, Half, Remark}
-use Rattle.hex_source.specs.declared.standing.Step.{Step}
-use Rattle.hex_source.specs.declared.standing.Step.TheVariants.{Goes, Gives, Fails}
+use Rattle.hex_source.specs.declared.standing.Effect.{Effect}
+use Rattle.hex_source.specs.declared.standing.Effect.TheVariants.{Goes, Gives, Fails}
 use Rattle.hex_source.specs.Letters.{sign_of}
 
 -- what a letter with its sign makes of a reading
-abbrev pub step_of : Standing → ℕ → Sign → Step
-step_of Remark letter LineEnd = Goes Between
-step_of Remark letter _ = Goes Remark
-step_of Between letter (Digit high) = Goes (Half high)
-step_of Between letter Blank = Goes Between
-step_of Between letter LineEnd = Goes Between
-step_of Between letter Hash = Goes Remark
-step_of Between letter Other = Fails (NoDigit letter)
-step_of (Half high) letter (Digit low) = Gives (16 * high + low)
-step_of (Half high) letter Blank = Fails HalfByte
-step_of (Half high) letter LineEnd = Fails HalfByte
-step_of (Half high) letter Hash = Fails HalfByte
-step_of (Half high) letter Other = Fails (NoDigit letter)
+abbrev pub effect_of : Standing → ℕ → Sign → Effect
+effect_of Remark letter LineEnd = Goes Between
+effect_of Remark letter _ = Goes Remark
+effect_of Between letter (Digit high) = Goes (Half high)
+effect_of Between letter Blank = Goes Between
+effect_of Between letter LineEnd = Goes Between
+effect_of Between letter Hash = Goes Remark
+effect_of Between letter Other = Fails (NoDigit letter)
+effect_of (Half high) letter (Digit low) = Gives (16 * high + low)
+effect_of (Half high) letter Blank = Fails HalfByte
+effect_of (Half high) letter LineEnd = Fails HalfByte
+effect_of (Half high) letter Hash = Fails HalfByte
+effect_of (Half high) letter Other = Fails (NoDigit letter)
 
 -- a fault in a line
 abbrev pub fault_in : ℕ → Fault → Result (List ℕ) Misspelling
@@ -37,8 +37,8 @@ abbrev pub in_front : ℕ → Result (List ℕ) Misspelling → Result (List ℕ
 in_front byte (Ok bytes) = Ok (byte ∷ bytes)
 in_front byte (Err misspelling) = Err misspelling
 
--- a step in a line, and behind it what is spelled from the next standing on
-abbrev pub onward : Step → ℕ → (Standing → Result (List ℕ) Misspelling) → Result (List ℕ) Misspelling
+-- the effect of a letter in a line, and behind it what is spelled from the next standing on
+abbrev pub onward : Effect → ℕ → (Standing → Result (List ℕ) Misspelling) → Result (List ℕ) Misspelling
 onward (Goes next) line behind = behind next
 onward (Gives byte) line behind = in_front byte (behind Between)
 onward (Fails fault) line behind = fault_in line fault
@@ -57,7 +57,7 @@ line_behind letter line = if letter == 10 then line + 1 else line
 abbrev pub spelled_from : Standing → ℕ → List ℕ → Result (List ℕ) Misspelling
 spelled_from standing line [] = ended standing line
 spelled_from standing line (letter ∷ text) =
-    onward (step_of standing letter (sign_of letter)) line (λ next. spelled_from next (line_behind letter line) text)
+    onward (effect_of standing letter (sign_of letter)) line (λ next. spelled_from next (line_behind letter line) text)
 
 -- the bytes that a text spells, or its first fault
 abbrev pub spelled : List ℕ → Result (List ℕ) Misspelling
@@ -88,8 +88,8 @@ HoldsDigit Between = ⊤
 HoldsDigit (Half high) = high < 16
 HoldsDigit Remark = ⊤
 
--- a step from which a reading goes on leaves it with a digit's value, where it leaves it behind a first digit
-abbrev pub LeavesDigit : Step → Type 0
+-- a letter from which a reading goes on leaves it with a digit's value, where it leaves it behind a first digit
+abbrev pub LeavesDigit : Effect → Type 0
 LeavesDigit (Goes next) = HoldsDigit next
 LeavesDigit (Gives byte) = ⊤
 LeavesDigit (Fails fault) = ⊤

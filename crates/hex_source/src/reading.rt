@@ -6,7 +6,7 @@ ghost use Rattle.hex_source.specs.Pieces.{IsLaidOut, BreaksOff, IsBreakOf};
 ghost use Rattle.hex_source.specs.Spelling.{behind, ended, spelled, IsFaultOf, IsOutOfMemory, IsThatFault};
 
 use crate::fault::{Fault, Misspelling, SourceError};
-use crate::standing::{Standing, Step};
+use crate::standing::{Effect, Standing};
 use std::alloc::Global;
 
 /// A text that was read to its end.
@@ -26,13 +26,13 @@ fn read(heap: Global, source: &[u8]) -> Result<Reading, SourceError>
     let mut standing = Standing::Between;
     let mut line = 1;
     for letter in source {
-        match standing.step(*letter) {
-            Step::Goes(next) => standing = next,
-            Step::Gives(byte) => {
+        match standing.effect(*letter) {
+            Effect::Goes(next) => standing = next,
+            Effect::Gives(byte) => {
                 bytes.push(byte)?;
                 standing = Standing::Between;
             }
-            Step::Fails(fault) => {
+            Effect::Fails(fault) => {
                 return Err(SourceError::Misspelled(Misspelling { line, fault }));
             }
         }

@@ -2,7 +2,7 @@
 
 ghost use Rattle.std.specs.Prelude.{◌≡◌};
 ghost use Rattle.hex_source.specs.Letters.{sign_of};
-ghost use Rattle.hex_source.specs.Spelling.{HoldsDigit, LeavesDigit, step_of};
+ghost use Rattle.hex_source.specs.Spelling.{HoldsDigit, LeavesDigit, effect_of};
 
 use crate::fault::Fault;
 use crate::letters::Sign;
@@ -20,7 +20,7 @@ pub(crate) enum Standing {
 
 /// What a letter makes of the reading.
 #[derive(Clone, Copy, PartialEq, Eq, Debug)]
-pub(crate) enum Step {
+pub(crate) enum Effect {
     /// The reading goes on from here.
     Goes(Standing),
     /// The letter ends this byte, and the reading stands between bytes.
@@ -31,22 +31,22 @@ pub(crate) enum Step {
 
 impl Standing {
     /// What the next letter makes of the reading.
-    pub(crate) fn step(self, letter: u8) -> Step
+    pub(crate) fn effect(self, letter: u8) -> Effect
         requires { HoldsDigit self }
-        ensures step { result ≡ step_of self letter (sign_of letter) }
+        ensures effect { result ≡ effect_of self letter (sign_of letter) }
         ensures held { LeavesDigit result }
     {
         match (self, Sign::of(letter)) {
-            (Standing::Remark, Sign::LineEnd) => Step::Goes(Standing::Between),
-            (Standing::Remark, _) => Step::Goes(Standing::Remark),
-            (Standing::Between, Sign::Digit(high)) => Step::Goes(Standing::Half(high)),
-            (Standing::Between, Sign::Blank | Sign::LineEnd) => Step::Goes(Standing::Between),
-            (Standing::Between, Sign::Hash) => Step::Goes(Standing::Remark),
-            (Standing::Half(high), Sign::Digit(low)) => Step::Gives(16 * high + low),
+            (Standing::Remark, Sign::LineEnd) => Effect::Goes(Standing::Between),
+            (Standing::Remark, _) => Effect::Goes(Standing::Remark),
+            (Standing::Between, Sign::Digit(high)) => Effect::Goes(Standing::Half(high)),
+            (Standing::Between, Sign::Blank | Sign::LineEnd) => Effect::Goes(Standing::Between),
+            (Standing::Between, Sign::Hash) => Effect::Goes(Standing::Remark),
+            (Standing::Half(high), Sign::Digit(low)) => Effect::Gives(16 * high + low),
             (Standing::Half(_), Sign::Blank | Sign::LineEnd | Sign::Hash) => {
-                Step::Fails(Fault::HalfByte)
+                Effect::Fails(Fault::HalfByte)
             }
-            (_, Sign::Other) => Step::Fails(Fault::NoDigit(letter)),
+            (_, Sign::Other) => Effect::Fails(Fault::NoDigit(letter)),
         }
     }
 }

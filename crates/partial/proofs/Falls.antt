@@ -1,5 +1,5 @@
 -- Figures that fall out of their range, and fall further, stay out of it.
-use Rattle.std.proofs.Common.{◌≡◌, ℕ, Bool, true, false, ◌&&◌, ℤ, pos, negsuc, ◌+ℤ◌, ◌-ℤ◌, ◌≤ℤ◌, refl, sym, ◌∙◌, arith}
+use Rattle.std.proofs.Common.{◌≡◌, ℕ, Bool, true, false, ◌&&◌, ℤ, pos, negsuc, ◌+ℤ◌, ◌-ℤ◌, ◌≤ℤ◌, refl, arith}
 use lib.Signed.{le_z}
 use Rattle.std.proofs.lemmas.Bool.{and_parts}
 use Rattle.std.proofs.lemmas.Int.{ints}
@@ -12,11 +12,11 @@ le_by : (x y : ℤ) (b : Bool) → le_z x y ≡ b → x ≤ℤ y → b ≡ true
 le_by x y true e h = refl
 le_by x y false e h = absurd (omega (arith, ints))
 
-le_holds : (x y : ℤ) → x ≤ℤ y → le_z x y ≡ true
+pub le_holds : (x y : ℤ) → x ≤ℤ y → le_z x y ≡ true
 le_holds x y h = le_by x y (le_z x y) refl h
 
 -- what lies between two figures in bounds is in bounds
-bounded_between : (x y z : ℤ) → bounded x ≡ true → bounded z ≡ true → z ≤ℤ y → y ≤ℤ x → bounded y ≡ true
+pub bounded_between : (x y z : ℤ) → bounded x ≡ true → bounded z ≡ true → z ≤ℤ y → y ≤ℤ x → bounded y ≡ true
 unfolding bounded
 bounded_between x y z bx bz l u =
     let px = and_parts (le_z (negsuc 999999999999999) x) (le_z x (pos 1000000000000000)) bx in
@@ -25,7 +25,7 @@ bounded_between x y z bx bz l u =
     let high : le_z y (pos 1000000000000000) ≡ true = le_holds y (pos 1000000000000000) (omega (arith, ints, px.1)) in
     rw (low, high)
 
-all_true : (a b c d e : Bool) → a ≡ true → b ≡ true → c ≡ true → d ≡ true → e ≡ true → (a && (b && (c && (d && e)))) ≡ true
+pub all_true : (a b c d e : Bool) → a ≡ true → b ≡ true → c ≡ true → d ≡ true → e ≡ true → (a && (b && (c && (d && e)))) ≡ true
 all_true true true true true true p q r s t = refl
 all_true false b c d e p q r s t = no_case (cc)
 all_true true false c d e p q r s t = no_case (cc)

@@ -1,19 +1,20 @@
 -- What each call of Level Two does.
 use Rattle.std.specs.Prelude.{ℕ, Bool, if◌then◌else◌, ◌&&◌, ◌||◌, List, [], ◌∷◌, pos, ◌+ℤ◌, ◌-ℤ◌, int_le, int_lt, Some, Ok, Result, ◌==◌, slice_set}
-use Rattle.registers.specs.declared.key.Key.{Key}
 use Rattle.registers.specs.declared.figures.Figures.{Figures}
 use Rattle.registers.specs.declared.row.Row.{Row}
 use Rattle.registers.specs.declared.fault.StoreFault.TheVariants.{OutOfRange}
 use Rattle.registers.specs.Amounts.{money_of, risk_of}
-use Rattle.registers.specs.Registers.{in_range}
+use Rattle.registers.specs.declared.kind.RegisterKind.TheVariants.{Participant}
+use Rattle.registers.specs.Registers.{in_range, kind_number}
 use Rattle.plans.specs.declared.refusal.Refusal.{Refusal}
 use Rattle.plans.specs.declared.refusal.Refusal.TheVariants.{AboveCollateral, BadValue, LeavesRange, MarginCall, NotSpared, ObligationsFull, Store}
 use Rattle.full.specs.declared.announcement.Announcement.{Announcement}
 use Rattle.full.specs.declared.deal.Deal.{Deal}
+use Rattle.full.specs.declared.mode.Mode.TheVariants.{Partial}
 use Rattle.full.specs.declared.opening.Opening.{Opening}
 use Rattle.full.specs.Checks.{PairOf, is_full, pair_of, ready_of}
 use Rattle.plans.specs.Steps.{and_then, demand, or_refuse}
-use Rattle.full.specs.Terms.{between, amount_ok, limit_ok}
+use Rattle.full.specs.Terms.{between, amount_ok, limit_ok, mode_number}
 use Rattle.std.specs.Option.{unwrap_or}
 use Rattle.full.specs.Orders.{Live, admitted_as}
 use Rattle.full.specs.Blocks.{cash_key, holding_key, limit_key, participant_key}
@@ -44,7 +45,7 @@ limit_opening_ok o = o.security == 0 && (participant_ok o.code && (limit_ok o.li
 -- open: 5, 7 (kind 2), 1, 2; answers the count of rows
 unfoldable pub open_of : State → Opening → Step
 open_of s o =
-    if o.kind == 3
+    if o.kind == kind_number Participant
     then demand (limit_opening_ok o) BadValue (down s (one.enter_of s.base (limit_row o)))
     else down s (one.open_of s.base o)
 
@@ -59,7 +60,7 @@ cover_at rs o =
 -- announce: 5, 8, 7, 9, 6, 25, 10; answers the block
 unfoldable pub announce_of : State → Announcement → Step
 announce_of s a =
-    if a.mode == 2
+    if a.mode == mode_number Partial
     then and_then (ready_of s.base.securities s.base.orders s.base.last_order a) (λ r.
     and_then (cover_at s.base.rows r.order) (λ h.
     down s (one.placed_of s.base r h)))
@@ -106,8 +107,8 @@ owed_of n p = record { number = n; seller = p.sell.account; buyer = p.buy.accoun
 
 -- a trade between two orders in partial mode: 18, 6, 25, 26; answers the money. Two moves of one participant's
 -- limit are one change.
-unfoldable pub part_of : State → ℕ → PairOf → Step
-part_of s n p =
+unfoldable pub partial_trade_of : State → ℕ → PairOf → Step
+partial_trade_of s n p =
     and_then (or_refuse (free_place s.obligations) ObligationsFull) (λ i.
     and_then (drawn_of s.base.rows p (ratio_for s.base p)) (λ w.
     Ok (record {
@@ -123,7 +124,7 @@ part_of s n p =
 unfoldable pub trade_of : State → Deal → Step
 trade_of s d =
     and_then (pair_of s.base.orders s.base.last_trade d) (λ p.
-    if is_full p.buy.mode then down s (one_trades.trade_of s.base d) else part_of s d.number p)
+    if is_full p.buy.mode then down s (one_trades.trade_of s.base d) else partial_trade_of s d.number p)
 
 -- limit and collateral rise
 unfoldable pub posted : Figures → ℕ → Figures

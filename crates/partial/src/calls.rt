@@ -5,7 +5,7 @@ ghost use Rattle.plans.specs.Plans.{Done};
 ghost use Rattle.full.specs.Views.{pair_as};
 ghost use Rattle.full.specs.Calls.{admit_of, credit_of, withdraw_of};
 ghost use Rattle.partial.specs.State.{down};
-ghost use Rattle.partial.specs.Calls.{announce_of, debit_of, open_of, part_of, post_of, trade_of};
+ghost use Rattle.partial.specs.Calls.{announce_of, debit_of, open_of, partial_trade_of, post_of, trade_of};
 
 use crate::engine::Engine;
 use crate::limits::{cover, debit_on, limits_drawn, opening_ok, participant_ok, post_on};
@@ -112,15 +112,15 @@ impl<S: Store> Engine<S> {
         if pair.buy.mode == Mode::Full {
             return self.full.trade(deal);
         }
-        self.part(deal.number, pair)
+        self.partial_trade(deal.number, pair)
     }
 
     /// A trade between two orders in partial mode that passed their checks; answers its money. Refuses a table
     /// that is full (18), a participant's limit that is not open (6), figures out of range (25) and figures that
     /// would leave it (26).
-    #[tactic(auto, unfolding(crate::specs::Calls::part_of))]
-    fn part(&mut self, number: u32, pair: Pair) -> Result<i64, Refusal>
-        ensures { Done S.Store.made (part_of self.old.state number (pair_as pair)) self.old self.new
+    #[tactic(auto, unfolding(crate::specs::Calls::partial_trade_of))]
+    fn partial_trade(&mut self, number: u32, pair: Pair) -> Result<i64, Refusal>
+        ensures { Done S.Store.made (partial_trade_of self.old.state number (pair_as pair)) self.old self.new
             result }
     {
         let place = self

@@ -9,3 +9,5 @@ pub mod limits;
 pub mod obligation;
 pub mod obligations;
 pub mod stage;
+pub mod trade_number;
+pub mod vacant;

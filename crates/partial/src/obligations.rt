@@ -1,10 +1,11 @@
 //! The table of obligations.
 
-ghost use Rattle.std.specs.Prelude.{◌≡◌, ◌<◌, length, replicate, is_none, IfSome, Some, None, slice_set};
-ghost use Rattle.partial.specs.Obligations.{has_number, free_place, place_of_obligation};
+ghost use Rattle.std.specs.Prelude.{◌≡◌, ◌<◌, length, replicate, IfSome, Some, None, slice_set};
+ghost use Rattle.partial.specs.Obligations.{free_place, place_of_obligation};
 
 use crate::obligation::Obligation;
-use seek::Keyed;
+use crate::trade_number::TradeNumber;
+use crate::vacant::Vacant;
 
 /// How many obligations may stand.
 pub const MOST_OBLIGATIONS: usize = 128;
@@ -14,30 +15,6 @@ pub const MOST_OBLIGATIONS: usize = 128;
 pub struct Obligations {
     // an array of places, which are freed and taken again: there is no heap for a map
     pub table: [Option<Obligation>; MOST_OBLIGATIONS],
-}
-
-/// The number of a trade, as a key of the table.
-#[derive(Clone, Copy, PartialEq, Eq, Debug)]
-pub struct TradeNumber(pub u32);
-
-impl Keyed<TradeNumber> for Option<Obligation> {
-    ghost bears = { λ o k. has_number k.0 o };
-
-    fn is_at(&self, key: TradeNumber) -> bool {
-        self.is_some_and(|obligation| obligation.number == key.0)
-    }
-}
-
-/// The key that a free place of the table bears.
-#[derive(Clone, Copy, PartialEq, Eq, Debug)]
-pub struct Vacant;
-
-impl Keyed<Vacant> for Option<Obligation> {
-    ghost bears = { λ o _. is_none o };
-
-    fn is_at(&self, _key: Vacant) -> bool {
-        self.is_none()
-    }
 }
 
 impl Obligations {

@@ -46,14 +46,14 @@ use Rattle.partial.specs.declared.obligation.Obligation.{Obligation}
 use Rattle.partial.specs.declared.drawn.Drawn.{Drawn}
 use Rattle.partial.specs.State.{State, with_base, down}
 use Rattle.partial.specs.Obligations.{free_place}
-use Rattle.partial.specs.Calls.{announce_of, cover_at, drawn_of, owed_of, part_of, ratio_for, participant_ok, limit_row, limit_opening_ok, open_of, posted, post_on, post_of, debited, spared, debit_on, debit_of, trade_of}
+use Rattle.partial.specs.Calls.{announce_of, cover_at, drawn_of, owed_of, partial_trade_of, ratio_for, participant_ok, limit_row, limit_opening_ok, open_of, posted, post_on, post_of, debited, spared, debit_on, debit_of, trade_of}
 use Rattle.partial.specs.declared.call.Call.{Call}
 use Rattle.partial.specs.declared.call.Call.TheVariants.{Full, Post, Debit}
 use Rattle.partial.specs.Plans.{call_of}
 use Rattle.partial_law.specs.Tally.{Tally, trade_number, owed_by, entered}
 use Rattle.partial_law.proofs.Promises.{Promise}
 use Rattle.partial_law.proofs.Owed.{owed_more, once_more, falling_more}
-use Rattle.partial_law.proofs.Parts.{below, is_partial, key_partial, part_keeps}
+use Rattle.partial_law.proofs.Parts.{below, is_partial, key_partial, partial_trade_keeps}
 
 pub post_passed : (h c : OpenRegister) (m : ℕ) → post_on h m ≡ Ok c → with_figures_of h (posted h.figures m) ≡ c
 unfolding post_on
@@ -132,19 +132,19 @@ module _ (reserve : ℕ) (t : Tally) (s : State) (h : Promise reserve t s) where
       down_keeps _ _ (place_keeps reserve t.base s.base h.base a r c e (cover_open s.base.rows r.order c (ready_mode reserve t.base s.base h.base a r modes.Partial e (partial_mode a.mode two)) ec)) (placed_rises s.base r c))
       (λ _. handed_keeps (one_calls.Announce a))
 
-  part_promise : (d : Deal) (p : PairOf) (m : Matched s.base.orders s.base.last_trade d p) (part : is_full p.buy.mode ≡ false) (i : ℕ) → free_place s.obligations ≡ Some i → (w : Drawn) → drawn_of s.base.rows p (ratio_for s.base p) ≡ Ok w → s.base.last_trade < d.number →
-      Promise reserve (entered t (Full (one_calls.Trade d))) (record { base = below reserve t.base s.base h.base d p m part w; obligations = set s.obligations i (Some (owed_of d.number p)) })
-  part_promise d p m part i fi w ew above =
+  partial_trade_promise : (d : Deal) (p : PairOf) (m : Matched s.base.orders s.base.last_trade d p) (partly : is_full p.buy.mode ≡ false) (i : ℕ) → free_place s.obligations ≡ Some i → (w : Drawn) → drawn_of s.base.rows p (ratio_for s.base p) ≡ Ok w → s.base.last_trade < d.number →
+      Promise reserve (entered t (Full (one_calls.Trade d))) (record { base = below reserve t.base s.base h.base d p m partly w; obligations = set s.obligations i (Some (owed_of d.number p)) })
+  partial_trade_promise d p m partly i fi w ew above =
       let hv = halves reserve t.base s.base h.base d p m in
       let buy = hv.buy in
       let sell = hv.sell in
-      let mode : buy.note.order.mode ≡ modes.Partial = sym (ap (λ (o : Live). o.mode) buy.is) ∙ is_partial p.buy.mode part in
+      let mode : buy.note.order.mode ≡ modes.Partial = sym (ap (λ (o : Live). o.mode) buy.is) ∙ is_partial p.buy.mode partly in
       let same : owed_of d.number p ∷ [] ≡ owed_by (find_by one.number d.buy t.base.notes) (find_by one.number d.sell t.base.notes) d =
       noted_owed d p buy.note sell.note mode (ap (λ (o : Live). o.account) buy.is) (ap (λ (o : Live). o.account) sell.is) (ap (λ (o : Live). o.security) buy.is) m.quantity m.priced
       ∙ sym (ap (λ (z : Option one.Note). owed_by z (find_by one.number d.sell t.base.notes) d) buy.at_n ∙ ap (λ (z : Option one.Note). owed_by (Some buy.note) z d) sell.at_n) in
-      subst (λ (os : List Obligation). Promise reserve (record { base = one.entered t.base (one_calls.Trade d); obligations = os ++ t.obligations }) (record { base = below reserve t.base s.base h.base d p m part w; obligations = set s.obligations i (Some (owed_of d.number p)) })) same
+      subst (λ (os : List Obligation). Promise reserve (record { base = one.entered t.base (one_calls.Trade d); obligations = os ++ t.obligations }) (record { base = below reserve t.base s.base h.base d p m partly w; obligations = set s.obligations i (Some (owed_of d.number p)) })) same
       (record {
-        base = part_keeps reserve t.base s.base h.base d p m part (ratio_for s.base p) w ew;
+        base = partial_trade_keeps reserve t.base s.base h.base d p m partly (ratio_for s.base p) w ew;
         owed = owed_more s.obligations t.obligations s.base.last_trade h.fresh h.owed (owed_of d.number p) i above fi;
         once = once_more s.obligations t.obligations s.base.last_trade h.fresh h.owed (owed_of d.number p) i above fi h.once;
         falling = falling_more (owed_of d.number p) s.base.last_trade t.obligations above h.fresh h.falling;
@@ -152,7 +152,7 @@ module _ (reserve : ℕ) (t : Tally) (s : State) (h : Promise reserve t s) where
       })
 
   trade_keeps : (d : Deal) → Keeps (Promise reserve (entered t (Full (one_calls.Trade d)))) (trade_of s d)
-  unfolding trade_of part_of
+  unfolding trade_of partial_trade_of
   trade_keeps d =
       by_step (Promise reserve _) (pair_of s.base.orders s.base.last_trade d) _ λ p ep.
       by_choice (Promise reserve _) (is_full p.buy.mode) _ _
@@ -162,11 +162,11 @@ module _ (reserve : ℕ) (t : Tally) (s : State) (h : Promise reserve t s) where
       let mode : n.note.order.mode ≡ modes.Full = sym (ap (λ (o : Live). o.mode) n.order) ∙ is_full_lem p.buy.mode full in
       subst (λ (os : List Obligation). Keeps (Promise reserve (record { base = one.entered t.base (one_calls.Trade d); obligations = os ++ t.obligations })) (down s (one_trades.trade_of s.base d)))
       (sym (nothing_owed d n.note (find_by one.number d.sell t.base.notes) mode n.at_n)) (handed_keeps (one_calls.Trade d)))
-      (λ part.
+      (λ partly.
       let m = pair_matched s.base.orders s.base.last_trade d p ep in
       by_there (Promise reserve _) (free_place s.obligations) _ _ λ i fi.
       by_step (Promise reserve _) (drawn_of s.base.rows p (ratio_for s.base p)) _ λ w ew.
-      part_promise d p m part i fi w ew (trade_above s.base.orders s.base.last_trade d p ep))
+      partial_trade_promise d p m partly i fi w ew (trade_above s.base.orders s.base.last_trade d p ep))
     where
       nothing_owed : (d : Deal) (x : one.Note) (y : Option one.Note) → x.order.mode ≡ modes.Full → find_by one.number d.buy t.base.notes ≡ Some x → owed_by (find_by one.number d.buy t.base.notes) y d ≡ []
       nothing_owed d x None e f = rw f

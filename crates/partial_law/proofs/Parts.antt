@@ -70,7 +70,7 @@ after_put rows k l a b f true e x y =
 after_put rows k l a b f false e x y =
     record { row = y.row; at = put_other rows a.place b.place f (eqb-false a.place b.place e) ∙ y.at; key = y.key; figures = y.figures }
 
-module _ (reserve : ℕ) (t : Tally) (s : State) (h : Promise reserve t s) (d : Deal) (p : PairOf) (mp : Matched s.orders s.last_trade d p) (part : is_full p.buy.mode ≡ false) where
+module _ (reserve : ℕ) (t : Tally) (s : State) (h : Promise reserve t s) (d : Deal) (p : PairOf) (mp : Matched s.orders s.last_trade d p) (partly : is_full p.buy.mode ≡ false) where
   hv : Halves t s d p
   hv = halves reserve t s h d p mp
 
@@ -93,10 +93,10 @@ module _ (reserve : ℕ) (t : Tally) (s : State) (h : Promise reserve t s) (d : 
   times2 = trade_leaving_rest (with_traded p.quantity y) ++ times1
 
   buy_mode : x.order.mode ≡ Partial
-  buy_mode = sym (ap (λ (o : Live). o.mode) hv.buy.is) ∙ is_partial p.buy.mode part
+  buy_mode = sym (ap (λ (o : Live). o.mode) hv.buy.is) ∙ is_partial p.buy.mode partly
 
   sell_mode : y.order.mode ≡ Partial
-  sell_mode = sym (ap (λ (o : Live). o.mode) hv.sell.is) ∙ both_partial p.buy.mode p.sell.mode (is_partial p.buy.mode part) mp.same_mode_lem
+  sell_mode = sym (ap (λ (o : Live). o.mode) hv.sell.is) ∙ both_partial p.buy.mode p.sell.mode (is_partial p.buy.mode partly) mp.same_mode_lem
 
   buy_key : participant_key p.buy.account ≡ register_of x
   buy_key = ap participant_key (ap (λ (o : Live). o.account) hv.buy.is) ∙ key_partial x.order.mode x.order.side x.order.account x.order.security buy_mode
@@ -164,9 +164,9 @@ module _ (reserve : ℕ) (t : Tally) (s : State) (h : Promise reserve t s) (d : 
   abbrev pub below : Drawn → State
   below w = with_last_trade (with_orders (with_rows s (moved_all s.rows (w.buyer ∷ w.seller ∷ []))) (lower_at (lower_at s.orders p.buy_place p.quantity) p.sell_place p.quantity)) d.number
 
-  pub part_keeps : (k : ℕ) (w : Drawn) → drawn_of s.rows p k ≡ Ok w → Promise reserve (entered t (Trade d)) (below w)
+  pub partial_trade_keeps : (k : ℕ) (w : Drawn) → drawn_of s.rows p k ≡ Ok w → Promise reserve (entered t (Trade d)) (below w)
   unfolding drawn_of
-  part_keeps k w e =
+  partial_trade_keeps k w e =
       let a = stepped (register_at s.rows (participant_key p.buy.account)) _ w e in
       let b = stepped (register_at s.rows (participant_key p.sell.account)) _ w a.1.1 in
       let is = drawn_is a.0 b.0 _ _ _ w b.1.1 in

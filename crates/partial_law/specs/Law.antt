@@ -1,5 +1,5 @@
 -- The law over whole runs of Level Two.
-use Rattle.std.specs.Prelude.{◌≡◌, ◌≢◌, ◌≤◌, ℕ, if◌then◌else◌, List, [], ◌∷◌, map, AllPairs, Some, None, Option}
+use Rattle.std.specs.Prelude.{◌≡◌, ◌≢◌, ◌≤◌, ℕ, if◌then◌else◌, List, [], ◌∷◌, map, AllPairs, None, Option}
 use Rattle.full_law.specs.Lists.{find_by, total}
 use Rattle.full_law.specs.Law as one
 use Rattle.partial.specs.declared.obligation.Obligation.{Obligation}

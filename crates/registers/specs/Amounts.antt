@@ -1,5 +1,6 @@
 -- Amounts: one rounding over a divisor, and what it is used for.
 use Rattle.std.specs.Prelude.{◌≡◌, ℕ, ◌+◌, ◌*◌, ◌/◌, ◌<◌, ◌≤◌, if◌then◌else◌, ◌&&◌, Some, None, Option, nat_le}
+use Rattle.registers.specs.declared.amounts.TheConstants.{MONEY_DIVISOR, RISK_DIVISOR}
 
 -- n ÷ d to the nearest whole number, a half upwards: the whole part of n ÷ d + 1/2
 unfoldable pub rounded : ℕ → ℕ → ℕ
@@ -7,11 +8,11 @@ rounded d n = (2 * n + d) / (2 * d)
 
 -- kopecks that a quantity costs at a price in ten-thousandths of a ruble
 abbrev pub money_of : ℕ → ℕ → ℕ
-money_of q p = rounded 100 (q * p)
+money_of q p = rounded MONEY_DIVISOR (q * p)
 
 -- kopecks of collateral under a ratio in ten-thousandths
 abbrev pub risk_of : ℕ → ℕ → ℕ → ℕ
-risk_of q p k = rounded 1000000 (q * p * k)
+risk_of q p k = rounded RISK_DIVISOR (q * p * k)
 
 -- a number that lies in a range, or none
 abbrev pub ranged : ℕ → ℕ → ℕ → Option ℕ

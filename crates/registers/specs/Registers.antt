@@ -36,7 +36,7 @@ kind_number Holding = 2
 kind_number Participant = 3
 
 abbrev pub kind_of : ℕ → Option RegisterKind
-kind_of n = if n == 1 then Some Cash else (if n == 2 then Some Holding else (if n == 3 then Some Participant else None))
+kind_of n = if n == kind_number Cash then Some Cash else (if n == kind_number Holding then Some Holding else (if n == kind_number Participant then Some Participant else None))
 
 -- the refusal number of each fault
 abbrev pub fault_number : StoreFault → ℕ

@@ -5,6 +5,13 @@ ghost use Rattle.registers.specs.Amounts.{money_of, risk_of, rounded, RoundedNea
 
 use crate::ranges::{Price, Quantity, Ratio};
 
+/// What a quantity times a price is divided by: the ten-thousandths of a ruble in a kopeck.
+pub const MONEY_DIVISOR: u64 = 100;
+
+/// What a quantity times a price times a ratio is divided by: the ten-thousandths of a ruble in a kopeck, times
+/// the ten-thousandths in the ratio of the whole value.
+pub const RISK_DIVISOR: u64 = 1_000_000;
+
 /// Kopecks, or pieces of a security, that a call moves: 0 to 10^16, so that a figure in range and
 /// any few amounts add up within 64 bits.
 #[derive(Clone, Copy, PartialEq, Eq, Debug)]
@@ -70,22 +77,22 @@ fn product(quantity: Quantity, price: Price) -> Unrounded
 // rounding is proved of two ways of working
 #[tactic(auto, unfolding(crate::specs::Amounts::rounded))]
 fn hundredths(product: Unrounded) -> u64
-    ensures value { result ≡ rounded 100 product.value }
+    ensures value { result ≡ rounded MONEY_DIVISOR product.value }
     ensures bound { result ≤ 1000000000000 }
 {
-    let whole = product.value / 100;
-    if product.value % 100 >= 50 {
-        whole + 1
+    let quotient = product.value / MONEY_DIVISOR;
+    if product.value % MONEY_DIVISOR >= MONEY_DIVISOR / 2 {
+        quotient + 1
     } else {
-        whole
+        quotient
     }
 }
 
 fn millionths(product: Unrounded, ratio: Ratio) -> u64
-    ensures value { result ≡ rounded 1000000 (product.value * ratio.value) }
+    ensures value { result ≡ rounded RISK_DIVISOR (product.value * ratio.value) }
     ensures bound { result ≤ 1000000000000 }
 {
-    (product.value * u64::from(ratio.value) + 500_000) / 1_000_000
+    (product.value * u64::from(ratio.value) + RISK_DIVISOR / 2) / RISK_DIVISOR
 }
 
 /// Over every divisor: two parts round to within one of what their sum rounds to, a greater number

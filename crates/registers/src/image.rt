@@ -8,11 +8,12 @@ ghost use Rattle.registers.specs.Bounds.{image_bounded};
 ghost use Rattle.registers.specs.Changes.{Led, led-none, led-joined};
 ghost use Rattle.registers.specs.Images.{key_at, figures_at, row_at, marked, room_of, count_of, image_rows, image_keys, key_bytes, figure_bytes, row_bytes, put_bytes, add_bytes, change_bytes, formatted};
 
-use crate::fault::{StoreFault, TooShort};
+use crate::fault::StoreFault;
 use crate::figures::Figures;
 use crate::key::Key;
 use crate::row::Row;
 use crate::store::{MOST_ROWS, Store};
+use crate::too_short::TooShort;
 use byte_fields::{Field, read, write};
 use seek::Table;
 
@@ -172,9 +173,9 @@ pub fn format(bytes: &mut [u8]) -> Result<(), TooShort>
     Ok(())
 }
 
-// `put_in` and `add_in` stand apart from the store: a method that writes and lends the bytes to be read forgets
+// `put_bytes` and `add_bytes` stand apart from the store: a method that writes and lends the bytes to be read forgets
 // what it knows of them; which bytes they leave is of the bytes before and after
-fn put_in(bytes: &mut [u8], place: usize, figures: Figures) -> Result<(), StoreFault>
+fn put_bytes(bytes: &mut [u8], place: usize, figures: Figures) -> Result<(), StoreFault>
     ensures answer { result ≡ put_answer (image_rows bytes.old) place }
     ensures after { image_rows bytes.new ≡ put_row (image_rows bytes.old) place figures }
     ensures same_room { room_of bytes.new ≡ room_of bytes.old }
@@ -187,7 +188,7 @@ fn put_in(bytes: &mut [u8], place: usize, figures: Figures) -> Result<(), StoreF
     Ok(())
 }
 
-fn add_in(bytes: &mut [u8], row: Row) -> Result<(), StoreFault>
+fn add_bytes(bytes: &mut [u8], row: Row) -> Result<(), StoreFault>
     ensures answer { result ≡ add_answer (image_rows bytes.old) (room_of bytes.old) }
     ensures after { image_rows bytes.new ≡ add_row (image_rows bytes.old) (room_of bytes.old) row }
     ensures same_room { room_of bytes.new ≡ room_of bytes.old }
@@ -261,10 +262,10 @@ impl Store for ImageStore<'_> {
     }
 
     fn put(&mut self, place: usize, figures: Figures) -> Result<(), StoreFault> {
-        put_in(self.bytes, place, figures)
+        put_bytes(self.bytes, place, figures)
     }
 
     fn add(&mut self, row: Row) -> Result<(), StoreFault> {
-        add_in(self.bytes, row)
+        add_bytes(self.bytes, row)
     }
 }

@@ -12,3 +12,4 @@ pub mod ranges;
 pub mod row;
 pub mod store;
 pub mod table;
+pub mod too_short;

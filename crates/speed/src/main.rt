@@ -5,9 +5,9 @@
 //! With the argument `ns` it carries out more rounds, and prints the nanoseconds of a call as well.
 #![tactic(auto)]
 
+mod call_counts;
 mod rounds;
 mod runs;
-mod tally;
 
 use std::{env, io};
 

@@ -2,7 +2,7 @@
 
 ghost use Rattle.std.specs.Prelude.{◌≡◌, ◌+◌, ◌≤◌, ◌*◌};
 
-use crate::tally::Tally;
+use crate::call_counts::CallCounts;
 use full::announcement::Announcement;
 use full::deal::Deal;
 use full::engine::Engine;
@@ -44,9 +44,9 @@ pub struct Size {
 /// The calls of rounds, by their kinds.
 #[derive(Clone, Copy, PartialEq, Eq, Debug)]
 pub struct Dealings {
-    pub purchases: Tally,
-    pub sales: Tally,
-    pub trades: Tally,
+    pub purchases: CallCounts,
+    pub sales: CallCounts,
+    pub trades: CallCounts,
 }
 
 /// A line for each kind.
@@ -112,24 +112,24 @@ impl Size {
 }
 
 /// Admits the security.
-pub fn admit<S: Store>(engine: &mut Engine<S>) -> Tally
+pub fn admit<S: Store>(engine: &mut Engine<S>) -> CallCounts
     ensures { result.made ≡ 1 }
 {
-    let mut tally = Tally::new();
-    tally.count(engine.admit(SECURITY, RATIO));
-    tally
+    let mut counts = CallCounts::new();
+    counts.count(engine.admit(SECURITY, RATIO));
+    counts
 }
 
 /// Opens the cash and the holding of every account.
-pub fn open<S: Store>(engine: &mut Engine<S>, size: Size) -> Tally
+pub fn open<S: Store>(engine: &mut Engine<S>, size: Size) -> CallCounts
     ensures { result.made ≡ 2 * size.accounts }
 {
-    let mut tally = Tally::new();
+    let mut counts = CallCounts::new();
     for account in FIRST..FIRST + size.accounts {
-        tally.count(engine.open(opening(RegisterKind::Cash, account, 0)));
-        tally.count(engine.open(opening(RegisterKind::Holding, account, SECURITY)));
+        counts.count(engine.open(opening(RegisterKind::Cash, account, 0)));
+        counts.count(engine.open(opening(RegisterKind::Holding, account, SECURITY)));
     }
-    tally
+    counts
 }
 
 /// Carries out the rounds: an order to buy, an order to sell, and their trade.
@@ -138,9 +138,9 @@ pub fn deal<S: Store>(engine: &mut Engine<S>, size: Size) -> Dealings
     ensures sales { result.sales.made ≡ size.rounds }
     ensures trades { result.trades.made ≡ size.rounds }
 {
-    let mut purchases = Tally::new();
-    let mut sales = Tally::new();
-    let mut trades = Tally::new();
+    let mut purchases = CallCounts::new();
+    let mut sales = CallCounts::new();
+    let mut trades = CallCounts::new();
     let buyer = size.buyer();
     let seller = size.seller();
     for round in 0..size.rounds {

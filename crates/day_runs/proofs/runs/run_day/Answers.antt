@@ -8,9 +8,9 @@ use Rattle.day_records.specs.Views.{item_next, items_left}
 use Rattle.dayfile.specs.declared.line.Line.{Line}
 use Rattle.dayfile.specs.Days.{lines_left, calls_left, state_behind}
 use Rattle.plans.specs.Plans.{EngineView}
-use Rattle.day_runs.specs.Days.{begin_of, calls_of, changes_of_day, filled, told_by}
+use Rattle.day_runs.specs.Days.{begin_of, calls_of, changes_of_day, overwritten, told_by}
 use Rattle.day_runs.proofs.Ends.{ruled}
-use Rattle.day_runs.proofs.Filled.{filled-none}
+use Rattle.day_runs.proofs.Overwritten.{overwritten-none}
 use Rattle.day_runs.proofs.Steps.{state_moved, changes_moved, none_called, none_behind}
 use Rattle.day_runs.proofs.runs.run_day.Goals as goal
 
@@ -21,7 +21,7 @@ loop-line-preserved g c =
     let s = c.loop-line.day.engine.state in
     let moves = c.next_line.ensures.advances in
     record {
-      told = c.tell-next.ensures (lines_left c.next_line.new.self) ∙ ap (λ (ls : List Line). filled c.loop-line.outcomes c.loop-line.next (told_by ls)) (sym c.in-Some.ensures.lines) ∙ c.loop-line.invariant.told;
+      told = c.tell-next.ensures (lines_left c.next_line.new.self) ∙ ap (λ (ls : List Line). overwritten c.loop-line.outcomes c.loop-line.next (told_by ls)) (sym c.in-Some.ensures.lines) ∙ c.loop-line.invariant.told;
       state =
           ap (λ (x : State). state_after call_of x (calls_left c.next_line.new.self)) moves.state
           ∙ sym (state_moved stage item s (calls_left c.next_line.new.self))
@@ -57,10 +57,10 @@ returns-clause-ran g c =
     let r = ruled (g.S.Store.rows c.args.store) (g.S.Store.capacity c.args.store) c.args.file.now c.into_engine.result.state left in
     record {
       told =
-          sym (filled-none c.loop-line.outcomes c.loop-line.next)
-          ∙ sym (ap (λ (ls : List Line). filled c.loop-line.outcomes c.loop-line.next (told_by ls)) c.in_default.ensures.lines.0)
+          sym (overwritten-none c.loop-line.outcomes c.loop-line.next)
+          ∙ sym (ap (λ (ls : List Line). overwritten c.loop-line.outcomes c.loop-line.next (told_by ls)) c.in_default.ensures.lines.0)
           ∙ c.loop-line.invariant.told
-          ∙ ap (λ (ls : List Line). filled c.args.outcomes.now 0 (told_by ls)) c.new-day.ensures.lines;
+          ∙ ap (λ (ls : List Line). overwritten c.args.outcomes.now 0 (told_by ls)) c.new-day.ensures.lines;
       state = left;
       law = r.law;
       law_at_end = r.law_at_end;

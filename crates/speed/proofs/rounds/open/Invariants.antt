@@ -2,4 +2,4 @@ use Rattle.std.proofs.Common.{◌≡◌, ◌+◌, ◌*◌}
 use Rattle.speed.proofs.rounds.open.Given as goal
 
 abbrev pub invariant-loop-account : goal.invariant-loop-account
-invariant-loop-account g l = l.tally.made + 1400 ≡ 2 * l.account
+invariant-loop-account g l = l.counts.made + 1400 ≡ 2 * l.account

@@ -1,6 +1,6 @@
 use Rattle.std.proofs.Common.{◌≡◌, ℕ, ◌+◌, List, [], ◌∷◌, length, drop, Some, Ok, Err, Result, sym, refl, ap, ◌∙◌, rules, arith}
 use Rattle.std.proofs.lemmas.List.{take_rest, drop_all}
-use Rattle.day_records.specs.declared.fault.Misread.{Misread}
+use Rattle.day_records.specs.declared.misread.Misread.{Misread}
 use Rattle.day_records.specs.declared.placed_record.PlacedRecord.{PlacedRecord}
 use Rattle.day_records.specs.Kinds.{body_of}
 use Rattle.day_records.specs.Items.{item_at, place_after, items_from}

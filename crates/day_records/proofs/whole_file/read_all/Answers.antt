@@ -4,7 +4,7 @@ use Rattle.std.proofs.lemmas.Iterator.Consumers.{YieldsList-from_shown, map_from
 use Rattle.day_records.specs.declared.reader.Reader.{Reader}
 use Rattle.day_records.specs.Items.{Item, items_of}
 use Rattle.day_records.specs.Views.{item_as, items_left, Reads}
-use Rattle.day_records.proofs.whole.read_all.Goals as goal
+use Rattle.day_records.proofs.whole_file.read_all.Goals as goal
 
 pub returns-in-Ok : goal.returns-in-Ok
 returns-in-Ok c =

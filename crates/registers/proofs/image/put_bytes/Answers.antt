@@ -1,6 +1,6 @@
 use Rattle.std.proofs.Common.{arith, rules}
 use Rattle.registers.proofs.Images.{FiguresFit, put_done, put_not}
-use Rattle.registers.proofs.image.put_in.Goals as goal
+use Rattle.registers.proofs.image.put_bytes.Goals as goal
 
 pub returns-then-place-count_of : goal.returns-then-place-count_of
 returns-then-place-count_of c =

@@ -2,7 +2,7 @@ use Rattle.std.proofs.Common.{◌≡◌, ℕ, ◌+◌, ap, ◌∙◌, arith, rul
 use Rattle.byte_fields.specs.Fields.{spliced, put_at}
 use Rattle.registers.specs.Images.{count_of, row_place, row_bytes}
 use Rattle.registers.proofs.Images.{KeyFits, FiguresFit, add_done, add_not}
-use Rattle.registers.proofs.image.add_in.Goals as goal
+use Rattle.registers.proofs.image.add_bytes.Goals as goal
 
 pub returns-then-count-room_of : goal.returns-then-count-room_of
 returns-then-count-room_of c =

@@ -5,7 +5,7 @@ ghost use Rattle.day_records.specs.Items.{items_of};
 ghost use Rattle.day_records.specs.Views.{item_as};
 
 use crate::day_file::open;
-use crate::fault::Misread;
+use crate::misread::Misread;
 use crate::placed_record::PlacedRecord;
 use std::alloc::{AllocError, Global};
 use std::iter;

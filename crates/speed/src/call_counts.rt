@@ -10,20 +10,20 @@ pub type Outcome = Result<i64, Refusal>;
 
 /// How many calls of one kind were made, how many of them were accepted, and what the last one answered.
 #[derive(Clone, Copy, PartialEq, Eq, Debug)]
-pub struct Tally {
+pub struct CallCounts {
     pub made: u64,
     pub accepted: u64,
     pub last: Option<Outcome>,
     ghost within: { accepted ≤ made },
 }
 
-impl Tally {
-    /// A tally of no call.
-    pub fn new() -> Tally
+impl CallCounts {
+    /// Counts of no call.
+    pub fn new() -> CallCounts
         ensures made { result.made ≡ 0 }
         ensures last { result.last ≡ None }
     {
-        Tally {
+        CallCounts {
             made: 0,
             accepted: 0,
             last: None,
@@ -37,7 +37,7 @@ impl Tally {
         ensures accepted { self.new.accepted ≡ self.old.accepted + (if is_ok outcome then 1 else 0) }
         ensures last { self.new.last ≡ Some outcome }
     {
-        *self = Tally {
+        *self = CallCounts {
             made: self.made + 1,
             accepted: self.accepted + u64::from(outcome.is_ok()),
             last: Some(outcome),
@@ -46,9 +46,9 @@ impl Tally {
 }
 
 /// Both counts, and the last answer.
-impl fmt::Display for Tally {
+impl fmt::Display for CallCounts {
     fn fmt<W: fmt::Write>(&self, f: &mut fmt::Formatter<W>) -> fmt::Result {
-        let Tally {
+        let CallCounts {
             made,
             accepted,
             last,
