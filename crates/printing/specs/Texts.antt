@@ -5,10 +5,14 @@ use Rattle.plans.specs.declared.refusal.Refusal.{Refusal}
 use Rattle.plans.specs.Refusals.{refusal_text}
 use Rattle.full.specs.declared.side.Side.{Side}
 use Rattle.full.specs.declared.side.Side.TheVariants.{Buy, Sell}
+use Rattle.full.specs.declared.mode.Mode.TheVariants as modes
+use Rattle.full.specs.Terms.{mode_number}
 use Rattle.full.specs.declared.call.Call.{Call}
 use Rattle.full.specs.declared.call.Call.TheVariants.{Admit, Open, Credit, Announce, Withdraw, Trade}
 use Rattle.partial.specs.declared.call.Call.{Call as PartialCall}
 use Rattle.partial.specs.declared.call.Call.TheVariants.{Full, Post, Debit}
+use Rattle.pool.specs.declared.call.Call.{Call as PoolCall}
+use Rattle.pool.specs.declared.call.Call.TheVariants.{Partial, Earmark, Deliver, Pay, Close}
 
 -- the word for a side
 abbrev pub side_text : Side → List ℕ
@@ -29,7 +33,7 @@ abbrev pub margin_text : ℕ → List ℕ
 margin_text margin = if margin == 0 then [] else codes " margin " ++ decimal margin
 
 abbrev pub mode_text : ℕ → List ℕ
-mode_text mode = if mode == 1 then [] else codes " mode " ++ decimal mode
+mode_text mode = if mode == mode_number modes.Full then [] else codes " mode " ++ decimal mode
 
 abbrev pub collateral_text : Call → List ℕ
 collateral_text (Admit security ratio) = []
@@ -44,6 +48,14 @@ abbrev pub partial_call_text : PartialCall → List ℕ
 partial_call_text (Full c) = call_text c ++ collateral_text c
 partial_call_text (Post participant amount) = codes "post " ++ (decimal participant ++ (codes " " ++ decimal amount))
 partial_call_text (Debit participant amount) = codes "debit " ++ (decimal participant ++ (codes " " ++ decimal amount))
+
+-- a call of Level Three in short: one of Level Two's, or one of the pool's with its arguments
+abbrev pub pool_call_text : PoolCall → List ℕ
+pool_call_text (Partial c) = partial_call_text c
+pool_call_text (Earmark code security) = codes "earmark " ++ (decimal code ++ (codes " " ++ decimal security))
+pool_call_text (Deliver number) = codes "deliver " ++ decimal number
+pool_call_text (Pay number) = codes "pay " ++ decimal number
+pool_call_text Close = codes "close"
 
 -- an outcome: ok and the answer, or no and the refusal
 abbrev pub outcome_text : Result ℤ Refusal → List ℕ

@@ -3,6 +3,8 @@
 ghost use Rattle.std.specs.Prelude.{◌≡◌};
 ghost use Rattle.registers.specs.Registers.{kind_number};
 ghost use Rattle.full.specs.declared.call.Call.TheVariants.{Open, Announce, Trade};
+ghost use Rattle.full.specs.declared.mode.Mode.TheVariants.{Full};
+ghost use Rattle.full.specs.Terms.{mode_number};
 
 use full::announcement::Announcement;
 use full::call::Call;
@@ -30,7 +32,7 @@ pub fn open(kind: RegisterKind, code: u32, security: u16, limit: u64) -> Call
 
 /// The announcement of an order in security 5 with full collateral.
 pub fn announce(side: Side, number: u32, account: u32, quantity: u32, price: u32) -> Call
-    ensures { result ≡ Announce (record { side = side; mode = 1; number = number; account = account; security = 5; quantity = quantity; price = price }) }
+    ensures { result ≡ Announce (record { side = side; mode = mode_number Full; number = number; account = account; security = SECURITY; quantity = quantity; price = price }) }
 {
     Call::Announce(Announcement {
         side,

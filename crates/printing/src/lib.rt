@@ -4,3 +4,4 @@
 pub mod calls;
 pub mod shown;
 pub mod shown_partial;
+pub mod shown_pool;

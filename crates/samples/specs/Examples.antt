@@ -1,19 +1,31 @@
--- The worked examples, in one table: what the definitions give, beside what they should give.
+-- The worked examples, in one table: what the constants and the definitions give, beside what they should give.
 use Rattle.std.specs.Prelude.{ℕ, Bool, true, ◌&&◌, List, [], ◌∷◌, ℤ, pos, negsuc, Some, None, Ok, Err, Option, Result, ◌==◌, int_le, slice_index_or}
 use Rattle.std.specs.List.{slice_get}
 use Rattle.registers.specs.declared.row.Row.{Row}
+use Rattle.registers.specs.declared.amounts.TheConstants.{MONEY_DIVISOR, RISK_DIVISOR}
+use Rattle.registers.specs.declared.ranges.TheConstants.{MOST_PRICE, MOST_QUANTITY, MOST_RATIO}
+use Rattle.registers.specs.declared.store.TheConstants.{MOST_ROWS}
 use Rattle.registers.specs.Amounts.{money_of, risk_of}
 use Rattle.plans.specs.declared.refusal.Refusal.{Refusal}
 use Rattle.plans.specs.Refusals.{number_of}
 use Rattle.plans.specs.Plans.{Plan, left_by}
 use Rattle.full.specs.declared.side.Side.{Side}
 use Rattle.full.specs.declared.side.Side.TheVariants.{Buy, Sell}
+use Rattle.full.specs.declared.book.TheConstants.{MOST_ORDERS}
+use Rattle.full.specs.declared.keys.TheConstants.{ACCOUNTS_EACH}
+use Rattle.full.specs.declared.ranges.TheConstants.{LEAST_ACCOUNT, MOST_ACCOUNT, MOST_LIMIT, MOST_SECURITY}
+use Rattle.full.specs.declared.securities.TheConstants.{MOST_SECURITIES}
 use Rattle.full.specs.State.{State, Step}
 use Rattle.full.specs.Calls.{announce_of}
 use Rattle.full.specs.Trades.{trade_of}
+use Rattle.partial.specs.declared.limits.TheConstants.{MOST_PARTICIPANT}
 use Rattle.partial.specs.declared.obligation.Obligation.{Obligation}
+use Rattle.partial.specs.declared.obligations.TheConstants.{MOST_OBLIGATIONS}
+use Rattle.partial.specs.declared.stage.Stage.TheVariants.{BothOwed}
 use Rattle.partial.specs.State as two_state
 use Rattle.partial.specs.Calls as two
+use Rattle.pool.specs.State as three_state
+use Rattle.pool.specs.Calls as three
 
 pub data Example : Type 0 where
   amount : ℕ → ℕ → Example
@@ -70,6 +82,11 @@ traded n q t s = left_by s (trading n q t s)
 abbrev pub refusal_in : {S : Type 0} → Result (Plan ℤ S) Refusal → ℕ
 refusal_in (Ok p) = 0
 refusal_in (Err e) = number_of e
+
+-- the answer of a call, and −1 where it is refused
+abbrev pub answer_in : {S : Type 0} → Result (Plan ℤ S) Refusal → ℤ
+answer_in (Ok p) = p.answer
+answer_in (Err e) = negsuc 0
 
 -- the figures of a row
 abbrev limit_in : Option Row → ℤ
@@ -145,9 +162,45 @@ quantity_owed s = quantity_in (slice_index_or s.obligations 0 None)
 abbrev pub money_owed : two_state.State → ℕ
 money_owed s = money_in (slice_index_or s.obligations 0 None)
 
+-- Level Three: account 802 owes 701 8 of security 5; of the 10 that it has, 4 are blocked
+abbrev pub owing : three_state.State
+owing =
+    record {
+      base = standing (record { key = record { kind = 2; code = 802; security = 5 }; figures = record { limit = pos 10; blocked = pos 4; third = pos 0 } } ∷ register 2 701 5 0 ∷ []) 2;
+      obligations = Some (record { number = 1; seller = 802; buyer = 701; security = 5; quantity = 8; money = 116; stage = BothOwed }) ∷ None ∷ [];
+    }
+
+abbrev pub earmarking : three_state.State → three_state.Step
+earmarking s = three.earmark_of s 802 5
+
+abbrev pub earmarked : three_state.State → three_state.State
+earmarked s = left_by s (earmarking s)
+
+-- 802's holding
+abbrev pub holding_limit : three_state.State → ℤ
+holding_limit s = limit_in (slice_get s.base.rows 0)
+
+abbrev pub holding_third : three_state.State → ℤ
+holding_third s = third_in (slice_get s.base.rows 0)
+
 abbrev pub examples : List Example
 examples =
-    amount (money_of 1 49) 0
+    amount MONEY_DIVISOR 100
+    ∷ amount RISK_DIVISOR 1000000
+    ∷ amount MOST_PRICE 100000000
+    ∷ amount MOST_QUANTITY 1000000
+    ∷ amount MOST_RATIO 10000
+    ∷ amount MOST_ROWS 4096
+    ∷ amount LEAST_ACCOUNT 100
+    ∷ amount MOST_ACCOUNT 999999
+    ∷ amount ACCOUNTS_EACH 100
+    ∷ amount MOST_SECURITY 9999
+    ∷ amount MOST_LIMIT 100000000000000
+    ∷ amount MOST_SECURITIES 64
+    ∷ amount MOST_ORDERS 256
+    ∷ amount MOST_PARTICIPANT 9999
+    ∷ amount MOST_OBLIGATIONS 128
+    ∷ amount (money_of 1 49) 0
     ∷ amount (money_of 1 50) 1
     ∷ amount (money_of 3 50) 2
     ∷ amount (risk_of 10 123456 1000) 1235
@@ -174,4 +227,9 @@ examples =
     ∷ figure (collateral (drawn 2 (drawn 1 facing))) (pos 1000)
     ∷ amount (quantity_owed (drawn 1 facing)) 1
     ∷ amount (money_owed (drawn 1 facing)) 15
+    ∷ figure (answer_in (earmarking owing)) (pos 6)
+    ∷ figure (holding_limit (earmarked owing)) (pos 4)
+    ∷ figure (holding_third (earmarked owing)) (pos 6)
+    ∷ figure (answer_in (earmarking (earmarked owing))) (pos 0)
+    ∷ amount (refusal_in (three.deliver_of (earmarked owing) 1)) 24
     ∷ []

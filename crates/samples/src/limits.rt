@@ -1,95 +1,24 @@
 //! Level Two's dealings, on the engine over both stores.
 
 use crate::obligations::show_obligations;
+use crate::partial_calls::{
+    admit, debit, open_cash, open_holding, open_limit, order, post, trade, withdraw,
+};
 use crate::stores::show_rows;
-use full::announcement::Announcement;
-use full::call::Call as FullCall;
-use full::deal::Deal;
-use full::mode::Mode;
-use full::opening::Opening;
 use full::settings::Settings;
 use full::side::Side;
 use partial::call::Call;
 use partial::engine::Engine;
 use plans::machine::Machine;
-use printing::calls::{SECURITY, announce, open};
+use printing::calls::{SECURITY, announce};
 use printing::shown::ShownOutcome;
 use printing::shown_partial::ShownPartialCall;
 use registers::image;
 use registers::image::ImageStore;
-use registers::kind::RegisterKind;
 use registers::row::BLANK;
 use registers::store::Store;
 use registers::table::RowStore;
 use std::io;
-
-// short names for cases of `Call`, which these lists alone are full of
-
-fn admit(security: u16, ratio: u16) -> Call {
-    FullCall::Admit { security, ratio }.into()
-}
-
-fn open_cash(account: u32, limit: u64) -> Call {
-    open(RegisterKind::Cash, account, 0, limit).into()
-}
-
-fn open_holding(account: u32) -> Call {
-    open(RegisterKind::Holding, account, SECURITY, 0).into()
-}
-
-fn open_limit(participant: u32, limit: u64, margin: u64) -> Call {
-    let opening = Opening {
-        kind: RegisterKind::Participant as u8,
-        code: participant,
-        security: 0,
-        limit,
-        margin,
-    };
-    FullCall::Open(opening).into()
-}
-
-/// The announcement of an order in security 5 in partial mode.
-fn order(side: Side, number: u32, account: u32, quantity: u32, price: u32) -> Call {
-    let announcement = Announcement {
-        side,
-        mode: Mode::Partial as u8,
-        number,
-        account,
-        security: SECURITY,
-        quantity,
-        price,
-    };
-    FullCall::Announce(announcement).into()
-}
-
-fn withdraw(number: u32) -> Call {
-    FullCall::Withdraw { number }.into()
-}
-
-fn trade(number: u32, buy: u32, sell: u32, quantity: u32, price: u32) -> Call {
-    let deal = Deal {
-        number,
-        buy,
-        sell,
-        quantity,
-        price,
-    };
-    FullCall::Trade(deal).into()
-}
-
-fn post(participant: u16, amount: u64) -> Call {
-    Call::Post {
-        participant,
-        amount,
-    }
-}
-
-fn debit(participant: u16, amount: u64) -> Call {
-    Call::Debit {
-        participant,
-        amount,
-    }
-}
 
 /// Makes calls, and prints each with its answer.
 fn make<S: Store>(rt: &HostRuntime, engine: &mut Engine<S>, calls: &[Call]) -> io::Result<()> {
@@ -100,11 +29,16 @@ fn make<S: Store>(rt: &HostRuntime, engine: &mut Engine<S>, calls: &[Call]) -> i
     Ok(())
 }
 
+/// Prints every row and every obligation.
+pub fn show_state<S: Store>(rt: &HostRuntime, engine: &mut Engine<S>) -> io::Result<()> {
+    show_rows(rt, &mut engine.full.store)?;
+    show_obligations(rt, &engine.obligations)
+}
+
 /// Makes calls, and then prints every row and every obligation.
 fn deal<S: Store>(rt: &HostRuntime, engine: &mut Engine<S>, calls: &[Call]) -> io::Result<()> {
     make(rt, engine, calls)?;
-    show_rows(rt, &mut engine.full.store)?;
-    show_obligations(rt, &engine.obligations)
+    show_state(rt, engine)
 }
 
 /// What is admitted and opened: three accounts, two of them participant 7's, and two limits.
@@ -112,11 +46,11 @@ fn begin<S: Store>(rt: &HostRuntime, engine: &mut Engine<S>) -> io::Result<()> {
     let calls = [
         admit(SECURITY, 1000),
         open_cash(701, 201),
-        open_holding(701),
+        open_holding(701, 0),
         open_cash(702, 0),
-        open_holding(702),
+        open_holding(702, 0),
         open_cash(802, 0),
-        open_holding(802),
+        open_holding(802, 0),
         open_limit(7, 1000, 0),
         open_limit(8, 2000, 400),
         open_limit(7, 1000, 0),

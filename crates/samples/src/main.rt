@@ -2,11 +2,16 @@
 #![tactic(auto)]
 
 mod amounts;
+mod brought;
+mod circle;
 mod damage;
 mod engine;
 mod examples;
 mod limits;
 mod obligations;
+mod partial_calls;
+mod pools;
+mod settlement;
 mod stores;
 
 use std::io;
@@ -17,5 +22,6 @@ fn main(rt: HostRuntime) -> io::Result<()> {
     stores::show(&rt)?;
     damage::show(&rt)?;
     engine::show(&rt)?;
-    limits::show(&rt)
+    limits::show(&rt)?;
+    pools::show(&rt)
 }

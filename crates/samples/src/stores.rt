@@ -39,7 +39,12 @@ fn show_counts<S: Store>(rt: &HostRuntime, store: &mut S) -> io::Result<()> {
     println!(rt; "count {}, room {}", store.count(), store.room())
 }
 
-fn add<S: Store>(rt: &HostRuntime, store: &mut S, key: Key, figures: Figures) -> io::Result<()> {
+pub fn add<S: Store>(
+    rt: &HostRuntime,
+    store: &mut S,
+    key: Key,
+    figures: Figures,
+) -> io::Result<()> {
     let answer = StoreAnswer(store.add(Row { key, figures }));
     println!(rt; "add {key}: {answer}")
 }
@@ -68,7 +73,7 @@ fn look<S: Store>(rt: &HostRuntime, store: &mut S, place: usize) -> io::Result<(
     }
 }
 
-fn figures(limit: i64, blocked: i64, third: i64) -> Figures {
+pub fn figures(limit: i64, blocked: i64, third: i64) -> Figures {
     Figures {
         limit,
         blocked,
@@ -76,7 +81,7 @@ fn figures(limit: i64, blocked: i64, third: i64) -> Figures {
     }
 }
 
-fn key(kind: RegisterKind, code: u32, security: u16) -> Key {
+pub fn key(kind: RegisterKind, code: u32, security: u16) -> Key {
     Key {
         kind: kind as u8,
         code,

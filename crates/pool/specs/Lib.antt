@@ -1,0 +1,5 @@
+pub mod Stages
+pub mod Debts
+pub mod State
+pub mod Calls
+pub mod Plans
