@@ -10,9 +10,9 @@ use partial::call::Call;
 use printing::calls::{SECURITY, announce, open};
 use registers::kind::RegisterKind;
 
-// short names for cases of `Call`, which these lists alone are full of
+// short names for cases of `Call`, which these lists and Level Three's alone are full of
 
-fn admit(ratio: u16) -> Call {
+pub(crate) fn admit(ratio: u16) -> Call {
     FullCall::Admit {
         security: SECURITY,
         ratio,
@@ -20,15 +20,15 @@ fn admit(ratio: u16) -> Call {
     .into()
 }
 
-fn open_cash(account: u32, limit: u64) -> Call {
+pub(crate) fn open_cash(account: u32, limit: u64) -> Call {
     open(RegisterKind::Cash, account, 0, limit).into()
 }
 
-fn open_holding(account: u32, limit: u64) -> Call {
+pub(crate) fn open_holding(account: u32, limit: u64) -> Call {
     open(RegisterKind::Holding, account, SECURITY, limit).into()
 }
 
-fn open_limit(participant: u32, limit: u64, margin: u64) -> Call {
+pub(crate) fn open_limit(participant: u32, limit: u64, margin: u64) -> Call {
     let opening = Opening {
         kind: RegisterKind::Participant as u8,
         code: participant,
@@ -40,7 +40,7 @@ fn open_limit(participant: u32, limit: u64, margin: u64) -> Call {
 }
 
 /// The announcement of an order in security 5 in partial mode.
-fn order(side: Side, number: u32, account: u32, quantity: u32, price: u32) -> Call {
+pub(crate) fn order(side: Side, number: u32, account: u32, quantity: u32, price: u32) -> Call {
     let announcement = Announcement {
         side,
         mode: Mode::Partial as u8,
@@ -57,7 +57,7 @@ fn withdraw(number: u32) -> Call {
     FullCall::Withdraw { number }.into()
 }
 
-fn trade(number: u32, buy: u32, sell: u32, quantity: u32, price: u32) -> Call {
+pub(crate) fn trade(number: u32, buy: u32, sell: u32, quantity: u32, price: u32) -> Call {
     let deal = Deal {
         number,
         buy,

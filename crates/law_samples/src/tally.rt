@@ -1,25 +1,27 @@
-//! A second account of a run of either level, kept from the calls and their outcomes alone.
+//! A second account of a run of any level, kept from the calls and their outcomes alone.
 
-use crate::notes::{Note, Opened, cost};
+use crate::notes::{Note, Opened, Owed, cost};
 use full::announcement::Announcement;
 use full::call::Call as FullCall;
 use full::deal::Deal;
 use full::opening::Opening;
-use partial::call::Call;
+use partial::call::Call as PartialCall;
 use partial::obligation::Obligation;
 use partial::stage::Stage;
+use pool::call::Call;
+use pool::leg::Leg;
 use registers::key::Key;
 use std::alloc::{AllocError, Global};
 use std::collections::BTreeMap;
 
 /// The ratios by their securities, the opened registers by their keys, the announced orders by their numbers, and
-/// the obligations by the numbers of the trades that left them.
+/// the obligations by the numbers of the trades that left them, with what was settled of them.
 #[derive(Drop)]
 pub struct Tally {
     pub ratios: BTreeMap<u16, u16>,
     pub opened: BTreeMap<Key, Opened>,
     pub notes: BTreeMap<u32, Note>,
-    pub obligations: BTreeMap<u32, Obligation>,
+    pub obligations: BTreeMap<u32, Owed>,
 }
 
 impl Tally {
@@ -101,7 +103,7 @@ impl Tally {
 
     fn note_trade(&mut self, deal: Deal) -> Result<(), AllocError> {
         if let Some(obligation) = self.owed_by(deal) {
-            self.obligations.insert(deal.number, obligation)?;
+            self.obligations.insert(deal.number, Owed::of(obligation))?;
         }
         self.note_traded(deal.buy, deal.quantity);
         self.note_traded(deal.sell, deal.quantity);
@@ -129,12 +131,23 @@ impl Tally {
         }
     }
 
+    fn note_settled(&mut self, number: u32, leg: Leg) {
+        if let Some(owed) = self.obligations.get_mut(&number) {
+            owed.settle(leg);
+        }
+    }
+
     /// Notes an accepted call.
     pub(crate) fn enter(&mut self, call: Call) -> Result<(), AllocError> {
         match call {
-            Call::Full(call) => self.enter_full(call),
-            Call::Post { .. } | Call::Debit { .. } => Ok(()),
+            Call::Partial(PartialCall::Full(call)) => return self.enter_full(call),
+            Call::Deliver { number } => self.note_settled(number, Leg::Securities),
+            Call::Pay { number } => self.note_settled(number, Leg::Money),
+            Call::Partial(PartialCall::Post { .. } | PartialCall::Debit { .. })
+            | Call::Earmark { .. }
+            | Call::Close => {}
         }
+        Ok(())
     }
 
     /// The blocks of the rests on a register.

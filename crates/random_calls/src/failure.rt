@@ -1,8 +1,8 @@
 //! Failures: where and how the law was found broken.
 
 use crate::fault::Fault;
-use partial::call::Call;
-use printing::shown_partial::ShownPartialCall;
+use pool::call::Call;
+use printing::shown_pool::ShownPoolCall;
 use std::alloc::AllocError;
 use std::fmt;
 
@@ -15,6 +15,8 @@ pub enum Place {
     Rows,
     /// In the engine over an image.
     Image,
+    /// In the engine over a row store whose changes are counted.
+    Counted,
 }
 
 /// A fault, its place, and the call after which it was found: the shape of its run, how many calls of the run were
@@ -34,6 +36,7 @@ impl fmt::Display for Place {
             Place::Answers => "of the answers",
             Place::Rows => "over the row store",
             Place::Image => "over the image",
+            Place::Counted => "over the counted store",
         })
     }
 }
@@ -78,7 +81,7 @@ impl fmt::Display for Failure {
         } = *self;
         write!(f, "in the run of {run}, after {before} calls")?;
         if let Some(call) = call {
-            write!(f, ", at the call {}", ShownPartialCall(call))?;
+            write!(f, ", at the call {}", ShownPoolCall(call))?;
         }
         write!(f, ": {fault} ({place})")
     }

@@ -5,7 +5,8 @@ use full::announcement::Announcement;
 use full::call::Call as FullCall;
 use full::mode::Mode;
 use full::opening::Opening;
-use partial::call::Call;
+use partial::call::Call as PartialCall;
+use pool::call::Call;
 use registers::kind::RegisterKind;
 
 /// A kind of calls. A trade is one of the mode of its first order, as that was noted.
@@ -26,10 +27,14 @@ pub enum CallKind {
     TradeFull,
     TradePartial,
     TradeOther,
+    Earmark,
+    Deliver,
+    Pay,
+    Close,
 }
 
 /// How many kinds there are.
-pub const KIND_COUNT: usize = 15;
+pub const KIND_COUNT: usize = 19;
 
 /// All kinds, in the order of their numbers.
 pub const CALL_KINDS: [CallKind; KIND_COUNT] = [
@@ -48,6 +53,10 @@ pub const CALL_KINDS: [CallKind; KIND_COUNT] = [
     CallKind::TradeFull,
     CallKind::TradePartial,
     CallKind::TradeOther,
+    CallKind::Earmark,
+    CallKind::Deliver,
+    CallKind::Pay,
+    CallKind::Close,
 ];
 
 fn kind_of_opening(opening: Opening) -> CallKind {
@@ -75,18 +84,28 @@ fn kind_of_trade(buy: u32, tally: &Tally) -> CallKind {
     }
 }
 
+fn kind_of_full(call: FullCall, tally: &Tally) -> CallKind {
+    match call {
+        FullCall::Admit { .. } => CallKind::Admit,
+        FullCall::Open(opening) => kind_of_opening(opening),
+        FullCall::Credit { .. } => CallKind::Credit,
+        FullCall::Announce(announced) => kind_of_announcement(announced),
+        FullCall::Withdraw { .. } => CallKind::Withdraw,
+        FullCall::Trade(deal) => kind_of_trade(deal.buy, tally),
+    }
+}
+
 impl CallKind {
     /// The kind of a call, beside the tally of the calls before it.
     pub(crate) fn of(call: Call, tally: &Tally) -> CallKind {
         match call {
-            Call::Full(FullCall::Admit { .. }) => CallKind::Admit,
-            Call::Full(FullCall::Open(opening)) => kind_of_opening(opening),
-            Call::Full(FullCall::Credit { .. }) => CallKind::Credit,
-            Call::Full(FullCall::Announce(announced)) => kind_of_announcement(announced),
-            Call::Full(FullCall::Withdraw { .. }) => CallKind::Withdraw,
-            Call::Full(FullCall::Trade(deal)) => kind_of_trade(deal.buy, tally),
-            Call::Post { .. } => CallKind::Post,
-            Call::Debit { .. } => CallKind::Debit,
+            Call::Partial(PartialCall::Full(call)) => kind_of_full(call, tally),
+            Call::Partial(PartialCall::Post { .. }) => CallKind::Post,
+            Call::Partial(PartialCall::Debit { .. }) => CallKind::Debit,
+            Call::Earmark { .. } => CallKind::Earmark,
+            Call::Deliver { .. } => CallKind::Deliver,
+            Call::Pay { .. } => CallKind::Pay,
+            Call::Close => CallKind::Close,
         }
     }
 
@@ -108,6 +127,10 @@ impl CallKind {
             CallKind::TradeFull => "trade in full mode",
             CallKind::TradePartial => "trade in partial mode",
             CallKind::TradeOther => "trade of an unknown order",
+            CallKind::Earmark => "earmark",
+            CallKind::Deliver => "deliver",
+            CallKind::Pay => "pay",
+            CallKind::Close => "close",
         }
     }
 }

@@ -7,8 +7,8 @@ use crate::fault::Fault;
 use crate::notes::Opened;
 use crate::tally::Tally;
 use full::book::Book;
-use partial::engine::Engine;
 use partial::obligations::Obligations;
+use pool::engine::Engine;
 use registers::figures::Figures;
 use registers::kind::RegisterKind;
 use registers::row::Row;
@@ -29,7 +29,7 @@ fn look_at_orders(book: &Book, tally: &mut Tally) -> Result<(), Fault> {
     Ok(())
 }
 
-/// Obligations are exactly those noted, each once.
+/// Obligations are exactly those noted of which a leg is owed, each once, with the legs that are owed.
 fn look_at_obligations(obligations: &Obligations, tally: &mut Tally) -> Result<(), Fault> {
     for slot in &obligations.table {
         if let Some(obligation) = slot {
@@ -41,14 +41,14 @@ fn look_at_obligations(obligations: &Obligations, tally: &mut Tally) -> Result<(
         .iter()
         .filter(|slot| slot.is_some())
         .count();
-    if count != tally.owed_count() {
+    if count != tally.standing {
         return Err(Fault::ObligationMissing);
     }
     Ok(())
 }
 
 /// A blocked figure is its opening figure plus the live blocks, within its allowance, which for a holding is none.
-fn drift_of(figures: Figures, opened: Opened) -> Result<Drift, Fault>
+pub(crate) fn drift_of(figures: Figures, opened: Opened) -> Result<Drift, Fault>
     ensures { IfOk result (λ d. d.kopecks ≤ d.allowance) }
 {
     let kopecks = figures
@@ -103,7 +103,7 @@ fn look_at_rows<S: Store>(store: &mut S, tally: &Tally) -> Result<Drift, Fault> 
 /// law does not hold.
 pub(crate) fn look_at<S: Store>(engine: &mut Engine<S>, tally: &mut Tally) -> Result<Drift, Fault> {
     tally.begin_look();
-    look_at_orders(&engine.full.book, tally)?;
-    look_at_obligations(&engine.obligations, tally)?;
-    look_at_rows(&mut engine.full.store, tally)
+    look_at_orders(&engine.partial.full.book, tally)?;
+    look_at_obligations(&engine.partial.obligations, tally)?;
+    look_at_rows(&mut engine.partial.full.store, tally)
 }

@@ -2,11 +2,13 @@
 
 use crate::codes::{account, amount, limit, participant, security};
 use crate::draws::Draws;
+use crate::legs::{delivery, earmark, payment};
 use crate::orders::{Market, announcement, trade, withdrawal};
 use crate::shape::{Shape, Wish};
 use full::call::Call as FullCall;
 use full::opening::Opening;
-use partial::call::Call;
+use partial::call::Call as PartialCall;
+use pool::call::Call;
 use registers::kind::RegisterKind;
 
 fn admission(draws: &mut Draws, shape: &Shape) -> FullCall {
@@ -78,22 +80,30 @@ fn posted_to(draws: &mut Draws) -> u16 {
     u16::try_from(participant(draws)).unwrap_or(0)
 }
 
+fn handed(call: FullCall) -> Call {
+    Call::Partial(PartialCall::Full(call))
+}
+
 /// Draws a call of a kind.
 pub(crate) fn call(draws: &mut Draws, shape: &Shape, market: Market<'_>, wish: Wish) -> Call {
     match wish {
-        Wish::Admission => Call::Full(admission(draws, shape)),
-        Wish::Opening => Call::Full(opening(draws, shape)),
-        Wish::Credit => Call::Full(credit(draws, shape)),
-        Wish::Announcement => Call::Full(announcement(draws, shape, market)),
-        Wish::Withdrawal => Call::Full(withdrawal(draws, market)),
-        Wish::Trade => Call::Full(trade(draws, market)),
-        Wish::Post => Call::Post {
+        Wish::Admission => handed(admission(draws, shape)),
+        Wish::Opening => handed(opening(draws, shape)),
+        Wish::Credit => handed(credit(draws, shape)),
+        Wish::Announcement => handed(announcement(draws, shape, market)),
+        Wish::Withdrawal => handed(withdrawal(draws, market)),
+        Wish::Trade => handed(trade(draws, market)),
+        Wish::Post => Call::Partial(PartialCall::Post {
             participant: posted_to(draws),
             amount: amount(draws, shape),
-        },
-        Wish::Debit => Call::Debit {
+        }),
+        Wish::Debit => Call::Partial(PartialCall::Debit {
             participant: posted_to(draws),
             amount: amount(draws, shape),
-        },
+        }),
+        Wish::Earmark => earmark(draws, shape, market),
+        Wish::Delivery => delivery(draws, market),
+        Wish::Payment => payment(draws, market),
+        Wish::Close => Call::Close,
     }
 }

@@ -11,6 +11,7 @@ use full::order::Order;
 use full::side::Side;
 use partial::obligation::Obligation;
 use partial::stage::Stage;
+use pool::leg::Leg;
 use registers::amounts::{money, risk};
 use registers::key::Key;
 use registers::kind::RegisterKind;
@@ -38,11 +39,21 @@ pub struct Opened {
     pub live_blocks: u64,
 }
 
-/// An obligation as a trade left it, and the look in which it was seen last.
+/// An obligation as a trade left it, which of its legs were settled, and the look in which it was seen last.
 #[derive(Clone, Copy)]
 pub struct Owed {
     pub obligation: Obligation,
+    pub delivered: bool,
+    pub paid: bool,
     pub seen: u64,
+}
+
+/// A note of any kind; a register's with its place among those opened.
+#[derive(Clone, Copy)]
+pub enum AnyNote {
+    Register(usize, Opened),
+    Order(Note),
+    Owed(Owed),
 }
 
 /// What a quantity costs at a price, or `None` where one lies outside its range.
@@ -94,14 +105,24 @@ impl Note {
         }
     }
 
-    /// The block of the order's rest.
-    pub(crate) fn block(self) -> u64 {
+    /// The collateral for a quantity of the order at a price; 0 for none.
+    pub(crate) fn collateral_at(self, quantity: u32, price: u32) -> u64 {
+        collateral(quantity, price, self.ratio).unwrap_or(0)
+    }
+
+    /// The block of a quantity of the order.
+    pub(crate) fn block_of(self, quantity: u32) -> u64 {
         let price = self.announced.price;
         match self.announced.side {
-            _ if self.is_partial() => collateral(self.rest(), price, self.ratio).unwrap_or(0),
-            Side::Buy => cost(self.rest(), price).unwrap_or(0),
-            Side::Sell => u64::from(self.rest()),
+            _ if self.is_partial() => self.collateral_at(quantity, price),
+            Side::Buy => cost(quantity, price).unwrap_or(0),
+            Side::Sell => u64::from(quantity),
         }
+    }
+
+    /// The block of the order's rest.
+    pub(crate) fn block(self) -> u64 {
+        self.block_of(self.rest())
     }
 
     /// Whether a live order is this one, as announced and with its rest.
@@ -145,9 +166,9 @@ impl Opened {
 }
 
 impl Owed {
-    /// What a trade between two noted orders leaves owed.
-    pub(crate) fn obligation(deal: Deal, buy: Note, sell: Note) -> Obligation {
-        Obligation {
+    /// What a trade between two noted orders leaves owed: both legs.
+    pub(crate) fn of(deal: Deal, buy: Note, sell: Note) -> Owed {
+        let obligation = Obligation {
             number: deal.number,
             seller: sell.announced.account,
             buyer: buy.announced.account,
@@ -155,6 +176,34 @@ impl Owed {
             quantity: deal.quantity,
             money: cost(deal.quantity, deal.price).unwrap_or(0),
             stage: Stage::BothOwed,
+        };
+        Owed {
+            obligation,
+            delivered: false,
+            paid: false,
+            seen: 0,
         }
+    }
+
+    /// Whether a leg was settled, to be read and noted.
+    pub(crate) fn settled(&mut self, leg: Leg) -> &mut bool {
+        match leg {
+            Leg::Securities => &mut self.delivered,
+            Leg::Money => &mut self.paid,
+        }
+    }
+
+    /// What is left of the obligation: nothing once both legs were settled.
+    pub(crate) fn left(self) -> Option<Obligation> {
+        let stage = match (self.delivered, self.paid) {
+            (false, false) => Stage::BothOwed,
+            (true, false) => Stage::MoneyOwed,
+            (false, true) => Stage::SecuritiesOwed,
+            (true, true) => return None,
+        };
+        Some(Obligation {
+            stage,
+            ..self.obligation
+        })
     }
 }

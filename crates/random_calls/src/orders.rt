@@ -10,12 +10,14 @@ use full::deal::Deal;
 use full::mode::Mode;
 use full::order::Order;
 use full::side::Side;
+use partial::obligations::Obligations;
 use registers::ranges::{MOST_PRICE, MOST_QUANTITY};
 
-/// What a call is drawn against: the order book, and the number of the last trade.
+/// What a call is drawn against: the order book, the obligations, and the number of the last trade.
 #[derive(Clone, Copy)]
 pub struct Market<'a> {
     pub book: &'a Book,
+    pub obligations: &'a Obligations,
     pub last_trade: u32,
 }
 

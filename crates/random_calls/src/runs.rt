@@ -1,21 +1,23 @@
-//! Runs of random calls over both stores.
+//! Runs of random calls over the three stores.
 
 use crate::counts::Counts;
 use crate::draws::Draws;
 use crate::drift::Drift;
+use crate::engines::Engines;
 use crate::failure::{Failure, Found, Place};
-use crate::fault::Fault;
 use crate::kind::CallKind;
-use crate::law::look_at;
 use crate::making;
 use crate::orders::Market;
 use crate::shape::{AT_FIRST, FIRST_CALLS, SHAPE_COUNT, SHAPES, Shape};
+use crate::spoiling::SPOILINGS;
 use crate::tally::Tally;
+use counting::counting::Counting;
 use full::settings::Settings;
-use partial::call::Call;
-use partial::engine::Engine;
-use plans::machine::Machine;
 use plans::refusal::Refusal;
+use pool::call::Call;
+use pool::engine::Engine;
+use pool::shown::Shown;
+use pool::ticket::{Collecting, Ending};
 use registers::image;
 use registers::image::ImageStore;
 use registers::row::BLANK;
@@ -26,14 +28,30 @@ use std::alloc::Global;
 /// How many calls a run has.
 pub const CALLS_EACH: u64 = 1_000;
 
-/// A shape, and how many calls a run of it has.
+/// What is asked of all runs: how many calls they have together, and after how many calls of each notes are spoilt,
+/// if they are.
+#[derive(Clone, Copy)]
+pub struct Task {
+    pub calls: u64,
+    pub spoil_after: Option<u64>,
+}
+
+/// A shape, how many calls a run of it has, and after how many of them notes are spoilt, if they are.
 #[derive(Clone, Copy)]
 struct Course {
     shape: Shape,
     length: u64,
+    spoil_after: Option<u64>,
 }
 
-/// What came of a call: what both engines answered, and the greatest drift after it.
+/// The tickets that the calls of a run are shown.
+#[derive(Clone, Copy)]
+struct Tickets<'t> {
+    collecting: &'t Collecting,
+    ending: &'t Ending,
+}
+
+/// What came of a call: what the engines answered, and the greatest drift after it.
 #[derive(Clone, Copy)]
 struct Carried {
     outcome: Result<i64, Refusal>,
@@ -49,68 +67,76 @@ fn draw<S: Store>(draws: &mut Draws, shape: &Shape, made: u64, engine: &Engine<S
     };
     let wish = weights.draw(draws);
     let market = Market {
-        book: &engine.full.book,
-        last_trade: engine.full.last_trade,
+        book: &engine.partial.full.book,
+        obligations: &engine.partial.obligations,
+        last_trade: engine.partial.full.last_trade,
     };
     making::call(draws, shape, market, wish)
 }
 
-/// Carries out a call on both engines, notes it if it was accepted, and looks at the law over both stores.
-fn step<A: Store, B: Store>(
-    rows: &mut Engine<A>,
-    image: &mut Engine<B>,
+/// Carries out a call on the engines, notes it if it was accepted, and looks at the law over each.
+fn step<A: Store, B: Store, C: Store>(
+    engines: &mut Engines<'_, A, B, C>,
     tally: &mut Tally,
     call: Call,
 ) -> Result<Carried, Found> {
-    let outcome = rows.carry_out(call);
-    if image.carry_out(call) != outcome {
-        return Err(Found::from(Fault::Unlike));
-    }
+    let outcome = engines.carry_out(call, tally)?;
     if outcome.is_ok() {
         tally.enter(call)?;
     }
-    let drift = look_at(rows, tally).map_err(|fault| Found {
-        fault,
-        place: Place::Rows,
-    })?;
-    look_at(image, tally).map_err(|fault| Found {
-        fault,
-        place: Place::Image,
-    })?;
+    let drift = engines.look_at(tally)?;
     Ok(Carried { outcome, drift })
 }
 
-/// Makes the calls of a course on two engines that nothing was done to, and counts them.
-fn deal<A: Store, B: Store>(
-    rows: &mut Engine<A>,
-    image: &mut Engine<B>,
+/// Spoils a note of each kind in turn, and counts those that were noticed. Refuses where one was not.
+fn spoil<S: Store>(
+    engine: &mut Engine<S>,
+    tally: &mut Tally,
+    counts: &mut Counts,
+) -> Result<(), Found> {
+    for spoiling in SPOILINGS {
+        let was_spoilt = spoiling.try_on(engine, tally).map_err(|fault| Found {
+            fault,
+            place: Place::Rows,
+        })?;
+        if was_spoilt {
+            counts.notice(spoiling);
+        }
+    }
+    Ok(())
+}
+
+/// Makes the calls of a course on engines that nothing was done to, and counts them.
+fn deal<A: Store, B: Store, C: Store>(
+    engines: &mut Engines<'_, A, B, C>,
     tally: &mut Tally,
     course: Course,
     draws: &mut Draws,
     counts: &mut Counts,
 ) -> Result<(), Failure> {
     for made in 0..course.length {
-        let call = draw(draws, &course.shape, made, rows);
+        let call = draw(draws, &course.shape, made, &engines.rows.engine);
         let kind = CallKind::of(call, tally);
-        match step(rows, image, tally, call) {
-            Ok(carried) => counts.count(kind, carried.outcome, carried.drift),
-            Err(found) => {
-                return Err(Failure {
-                    fault: found.fault,
-                    place: found.place,
-                    run: course.shape.name,
-                    before: made,
-                    call: Some(call),
-                });
-            }
+        let failure = |found: Found| Failure {
+            fault: found.fault,
+            place: found.place,
+            run: course.shape.name,
+            before: made,
+            call: Some(call),
+        };
+        let carried = step(engines, tally, call).map_err(failure)?;
+        counts.count(kind, carried.outcome, carried.drift);
+        if course.spoil_after == Some(made.saturating_add(1)) {
+            spoil(&mut engines.rows.engine, tally, counts).map_err(failure)?;
         }
     }
     Ok(())
 }
 
-/// One run, from empty stores.
+/// One run, from empty stores, whose calls are shown tickets.
 fn run(
     heap: Global,
+    tickets: Tickets<'_>,
     course: Course,
     draws: &mut Draws,
     counts: &mut Counts,
@@ -121,26 +147,75 @@ fn run(
     };
     let mut table = vec![in heap; BLANK; shape.room]?;
     let mut bytes = vec![in heap; 0; 7 + 31 * shape.room]?;
+    let mut counted = vec![in heap; BLANK; shape.room]?;
     // long enough for a header
     let _ = image::format(&mut bytes);
-    let mut rows = Engine::new(RowStore::new(&mut table), settings);
-    let mut image = Engine::new(ImageStore::new(&mut bytes), settings);
+    let mut engines = Engines {
+        rows: tickets.shown_to(Engine::new(RowStore::new(&mut table), settings)),
+        image: tickets.shown_to(Engine::new(ImageStore::new(&mut bytes), settings)),
+        counted: tickets.shown_to(Engine::new(
+            Counting::new(RowStore::new(&mut counted)),
+            settings,
+        )),
+    };
     let mut tally = Tally::new(heap, shape.reserve);
-    deal(&mut rows, &mut image, &mut tally, course, draws, counts)
+    deal(&mut engines, &mut tally, course, draws, counts)
+}
+
+impl<'t> Tickets<'t> {
+    fn shown_to<S: Store>(self, engine: Engine<S>) -> Shown<'t, S> {
+        Shown {
+            engine,
+            collecting: self.collecting,
+            ending: self.ending,
+        }
+    }
+}
+
+/// Runs of the shapes in turn, whose calls are shown tickets.
+fn run_with(
+    heap: Global,
+    tickets: Tickets<'_>,
+    task: Task,
+    draws: &mut Draws,
+    counts: &mut Counts,
+) -> Result<(), Failure> {
+    for place in 0..task.calls.div_ceil(CALLS_EACH) {
+        let before = place.saturating_mul(CALLS_EACH);
+        let course = Course {
+            shape: SHAPES[(place % SHAPE_COUNT) as usize],
+            length: task.calls.saturating_sub(before).min(CALLS_EACH),
+            spoil_after: task.spoil_after,
+        };
+        run(heap, tickets, course, draws, counts)?;
+    }
+    Ok(())
+}
+
+/// Gives a ticket up: closes a pool on an engine of its own, which nothing was done to.
+fn give_up(ticket: Ending) {
+    let mut table = [];
+    let settings = Settings { reserve: 0 };
+    let mut engine = Engine::new(RowStore::new(&mut table), settings);
+    let _ = engine.close(ticket);
 }
 
 /// Makes so many calls, in runs of the shapes in turn.
 pub(crate) fn run_all(
     heap: Global,
-    calls: u64,
+    task: Task,
     draws: &mut Draws,
     counts: &mut Counts,
 ) -> Result<(), Failure> {
-    for place in 0..calls.div_ceil(CALLS_EACH) {
-        let before = place.saturating_mul(CALLS_EACH);
-        let length = calls.saturating_sub(before).min(CALLS_EACH);
-        let shape = SHAPES[(place % SHAPE_COUNT) as usize];
-        run(heap, Course { shape, length }, draws, counts)?;
-    }
-    Ok(())
+    let collecting = Collecting::form();
+    let ending = Collecting::form().end();
+    let tickets = Tickets {
+        collecting: &collecting,
+        ending: &ending,
+    };
+    // no `?` here: a ticket has to be given up
+    let outcome = run_with(heap, tickets, task, draws, counts);
+    give_up(collecting.end());
+    give_up(ending);
+    outcome
 }

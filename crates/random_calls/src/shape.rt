@@ -6,11 +6,14 @@
 //!
 //! - 25, figures that were read out of range. An opening writes figures in range, and every call refuses to leave it,
 //!   so only an image that brings rows with it has such.
-//! - 6 of a withdrawal and of a trade: an order was accepted over open registers, and none closes.
-//! - 26 of a withdrawal, and of a trade in partial mode. The block of a rest is taken from a blocked figure that holds
-//!   it but for some kopecks. At most 128 trades in partial mode are accepted, and each takes at most 2 × 10^12 from
-//!   a limit, so that all together take less than the 10^15 that the range has below 0.
-//! - 22 to 24, which are no refusals of Level Two.
+//! - 6 of a withdrawal, of a trade, of a delivery and of a payment: an order was accepted over open registers, and
+//!   none closes.
+//! - 26 of a withdrawal. The block of a rest is taken from a blocked figure that holds it but for some kopecks.
+//! - 26 of a trade in partial mode. When an order is accepted in that mode, the limit is no lower than the blocked
+//!   figure; from then on the rests of at most 256 orders take at most 10^12 each from it, until the next is accepted.
+//!   That is less than the 10^15 that the range has below 0.
+//! - 26 of an earmark. The limit is left no lower than the blocked figure, the third no higher than what is owed by 128
+//!   obligations, which is less than 10^15, and their sum stays.
 
 ghost use Rattle.std.specs.Prelude.{◌≤◌};
 
@@ -27,6 +30,10 @@ pub enum Wish {
     Announcement,
     Withdrawal,
     Trade,
+    Earmark,
+    Delivery,
+    Payment,
+    Close,
 }
 
 /// How often each call is drawn, beside the others.
@@ -40,6 +47,10 @@ pub struct Weights {
     pub announcement: u16,
     pub withdrawal: u16,
     pub trade: u16,
+    pub earmark: u16,
+    pub delivery: u16,
+    pub payment: u16,
+    pub close: u16,
 }
 
 /// A shape. Limits and amounts are drawn up to `amount`, quantities and prices up to theirs, orders from so many
@@ -72,13 +83,17 @@ pub const AT_FIRST: Weights = Weights {
     announcement: 0,
     withdrawal: 0,
     trade: 0,
+    earmark: 0,
+    delivery: 0,
+    payment: 0,
+    close: 0,
 };
 
 /// How many shapes there are.
-pub const SHAPE_COUNT: u64 = 6;
+pub const SHAPE_COUNT: u64 = 7;
 
 /// The shapes, in the order in which runs take them.
-pub const SHAPES: [Shape; 6] = [
+pub const SHAPES: [Shape; 7] = [
     Shape {
         name: "a bit of all",
         reserve: 1_000,
@@ -98,6 +113,10 @@ pub const SHAPES: [Shape; 6] = [
             announcement: 37,
             withdrawal: 9,
             trade: 33,
+            earmark: 8,
+            delivery: 6,
+            payment: 6,
+            close: 1,
         },
     },
     Shape {
@@ -119,6 +138,10 @@ pub const SHAPES: [Shape; 6] = [
             announcement: 35,
             withdrawal: 5,
             trade: 30,
+            earmark: 6,
+            delivery: 5,
+            payment: 5,
+            close: 1,
         },
     },
     Shape {
@@ -140,6 +163,10 @@ pub const SHAPES: [Shape; 6] = [
             announcement: 25,
             withdrawal: 2,
             trade: 8,
+            earmark: 1,
+            delivery: 1,
+            payment: 1,
+            close: 1,
         },
     },
     Shape {
@@ -161,6 +188,10 @@ pub const SHAPES: [Shape; 6] = [
             announcement: 88,
             withdrawal: 2,
             trade: 3,
+            earmark: 2,
+            delivery: 1,
+            payment: 1,
+            close: 1,
         },
     },
     Shape {
@@ -182,6 +213,10 @@ pub const SHAPES: [Shape; 6] = [
             announcement: 34,
             withdrawal: 2,
             trade: 48,
+            earmark: 2,
+            delivery: 1,
+            payment: 1,
+            close: 1,
         },
     },
     Shape {
@@ -193,16 +228,45 @@ pub const SHAPES: [Shape; 6] = [
         amount: 100_000_000_000_000,
         quantity: 1_000_000,
         price: 100_000_000,
-        partial: 3,
+        partial: 4,
         weights: Weights {
             admission: 1,
             opening: 6,
-            credit: 40,
+            credit: 36,
             post: 7,
             debit: 5,
-            announcement: 21,
+            announcement: 26,
             withdrawal: 4,
-            trade: 16,
+            trade: 24,
+            earmark: 6,
+            delivery: 3,
+            payment: 6,
+            close: 1,
+        },
+    },
+    Shape {
+        name: "many settlements",
+        reserve: 100,
+        room: 30,
+        securities: 2,
+        accounts: 6,
+        amount: 20_000,
+        quantity: 60,
+        price: 2_000,
+        partial: 9,
+        weights: Weights {
+            admission: 1,
+            opening: 6,
+            credit: 4,
+            post: 4,
+            debit: 1,
+            announcement: 30,
+            withdrawal: 2,
+            trade: 36,
+            earmark: 16,
+            delivery: 8,
+            payment: 8,
+            close: 2,
         },
     },
 ];
@@ -218,6 +282,10 @@ impl Weights {
             (Wish::Debit, self.debit),
             (Wish::Announcement, self.announcement),
             (Wish::Withdrawal, self.withdrawal),
+            (Wish::Trade, self.trade),
+            (Wish::Earmark, self.earmark),
+            (Wish::Delivery, self.delivery),
+            (Wish::Payment, self.payment),
         ];
         let mut left = draws.below(self.total());
         for (wish, weight) in list {
@@ -227,7 +295,7 @@ impl Weights {
             }
             left -= weight;
         }
-        Wish::Trade
+        Wish::Close
     }
 
     fn total(self) -> u32 {
@@ -240,6 +308,10 @@ impl Weights {
             self.announcement,
             self.withdrawal,
             self.trade,
+            self.earmark,
+            self.delivery,
+            self.payment,
+            self.close,
         ]
         .iter()
         .fold(0, |sum: u32, weight| {

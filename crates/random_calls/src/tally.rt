@@ -1,28 +1,32 @@
 //! A second account of a run, kept from the calls and whether they were accepted, and from nothing else.
 
 use crate::fault::Fault;
-use crate::notes::{Note, Opened, Owed};
+use crate::notes::{AnyNote, Note, Opened, Owed};
 use full::announcement::Announcement;
 use full::call::Call as FullCall;
 use full::deal::Deal;
 use full::opening::Opening;
 use full::order::Order;
-use partial::call::Call;
+use partial::call::Call as PartialCall;
 use partial::obligation::Obligation;
+use pool::call::Call;
+use pool::leg::Leg;
 use registers::key::Key;
 use std::alloc::{AllocError, Global};
 use std::collections::BTreeMap;
+use std::mem;
 
 /// The ratios of admitted securities, the opened registers in their order, the announced orders and the obligations
-/// by their numbers, and how many orders have a rest.
+/// by their numbers, how many orders have a rest, and of how many obligations a leg is owed.
 #[derive(Drop)]
 pub struct Tally {
     pub reserve: u16,
     pub opened: Vec<Opened>,
     pub live: usize,
+    pub standing: usize,
+    pub notes: BTreeMap<u32, Note>,
+    pub owed: BTreeMap<u32, Owed>,
     ratios: BTreeMap<u16, u16>,
-    notes: BTreeMap<u32, Note>,
-    owed: BTreeMap<u32, Owed>,
     look: u64,
 }
 
@@ -33,9 +37,10 @@ impl Tally {
             reserve,
             opened: Vec::new(heap),
             live: 0,
-            ratios: BTreeMap::new(heap),
+            standing: 0,
             notes: BTreeMap::new(heap),
             owed: BTreeMap::new(heap),
+            ratios: BTreeMap::new(heap),
             look: 0,
         }
     }
@@ -43,11 +48,6 @@ impl Tally {
     /// The order of a number as it was noted.
     pub(crate) fn noted(&self, number: u32) -> Option<Note> {
         self.notes.get(&number).copied()
-    }
-
-    /// How many obligations were noted.
-    pub(crate) fn owed_count(&self) -> usize {
-        self.owed.len()
     }
 
     fn place_of(&self, key: Key) -> Option<usize> {
@@ -109,14 +109,10 @@ impl Tally {
         Ok(())
     }
 
-    fn note_owed(&mut self, obligation: Obligation) -> Result<(), Fault> {
-        let owed = Owed {
-            obligation,
-            seen: 0,
-        };
+    fn note_owed(&mut self, owed: Owed) -> Result<(), Fault> {
         let before = self
             .owed
-            .insert(obligation.number, owed)
+            .insert(owed.obligation.number, owed)
             .map_err(AllocError::from)?;
         if before.is_some() {
             return Err(Fault::TradedAgain);
@@ -128,7 +124,7 @@ impl Tally {
         let buy = self.noted(deal.buy).ok_or(Fault::NotAnnounced)?;
         let sell = self.noted(deal.sell).ok_or(Fault::NotAnnounced)?;
         if buy.is_partial() {
-            self.note_owed(Owed::obligation(deal, buy, sell))?;
+            self.note_owed(Owed::of(deal, buy, sell))?;
         }
         self.note_traded(deal.buy, deal.quantity)?;
         self.note_traded(deal.sell, deal.quantity)
@@ -142,25 +138,58 @@ impl Tally {
         Ok(())
     }
 
-    fn note(&mut self, call: Call) -> Result<(), Fault> {
+    fn note_settled(&mut self, number: u32, leg: Leg) -> Result<(), Fault> {
+        let Some(owed) = self.owed.get_mut(&number) else {
+            return Err(Fault::NotOwed);
+        };
+        let settled = owed.settled(leg);
+        if *settled {
+            return Err(Fault::SettledAgain);
+        }
+        *settled = true;
+        Ok(())
+    }
+
+    fn note_full(&mut self, call: FullCall) -> Result<(), Fault> {
         match call {
-            Call::Full(FullCall::Admit { security, ratio }) => self.note_admission(security, ratio),
-            Call::Full(FullCall::Open(opening)) => self.note_opening(opening),
-            Call::Full(FullCall::Announce(announced)) => self.note_order(announced),
-            Call::Full(FullCall::Withdraw { number }) => self.note_withdrawn(number),
-            Call::Full(FullCall::Trade(deal)) => self.note_trade(deal),
-            Call::Full(FullCall::Credit { .. }) | Call::Post { .. } | Call::Debit { .. } => Ok(()),
+            FullCall::Admit { security, ratio } => self.note_admission(security, ratio),
+            FullCall::Open(opening) => self.note_opening(opening),
+            FullCall::Announce(announced) => self.note_order(announced),
+            FullCall::Withdraw { number } => self.note_withdrawn(number),
+            FullCall::Trade(deal) => self.note_trade(deal),
+            FullCall::Credit { .. } => Ok(()),
         }
     }
 
-    /// Notes an accepted call, and adds up the live rests anew.
+    fn note(&mut self, call: Call) -> Result<(), Fault> {
+        match call {
+            Call::Partial(PartialCall::Full(call)) => self.note_full(call),
+            Call::Deliver { number } => self.note_settled(number, Leg::Securities),
+            Call::Pay { number } => self.note_settled(number, Leg::Money),
+            Call::Partial(PartialCall::Post { .. } | PartialCall::Debit { .. })
+            | Call::Earmark { .. }
+            | Call::Close => Ok(()),
+        }
+    }
+
+    /// Notes an accepted call, and adds up anew.
     pub(crate) fn enter(&mut self, call: Call) -> Result<(), Fault> {
         self.note(call)?;
         self.add_up();
         Ok(())
     }
 
+    /// Adds up the live rests, and the obligations of which a leg is owed.
     fn add_up(&mut self) {
+        self.add_up_rests();
+        self.standing = self
+            .owed
+            .values()
+            .filter(|owed| owed.left().is_some())
+            .count();
+    }
+
+    fn add_up_rests(&mut self) {
         self.live = 0;
         for opened in self.opened.iter_mut() {
             opened.live_blocks = 0;
@@ -174,6 +203,26 @@ impl Tally {
                 opened.live_blocks = opened.live_blocks.saturating_add(note.block());
             }
         }
+    }
+
+    /// Puts a note in the place of another, and adds up anew; hands out the other, or none where there was none.
+    pub(crate) fn exchange(&mut self, note: AnyNote) -> Option<AnyNote> {
+        let before = match note {
+            AnyNote::Register(place, opened) => {
+                let other = mem::replace(self.opened.get_mut(place)?, opened);
+                AnyNote::Register(place, other)
+            }
+            AnyNote::Order(note) => {
+                let other = self.notes.get_mut(&note.announced.number)?;
+                AnyNote::Order(mem::replace(other, note))
+            }
+            AnyNote::Owed(owed) => {
+                let other = self.owed.get_mut(&owed.obligation.number)?;
+                AnyNote::Owed(mem::replace(other, owed))
+            }
+        };
+        self.add_up();
+        Some(before)
     }
 
     /// Begins to look at an engine: nothing of it is seen yet.
@@ -196,7 +245,8 @@ impl Tally {
         Ok(())
     }
 
-    /// Sees an obligation of an engine. Refuses one that was not noted so, or was seen in this look.
+    /// Sees an obligation of an engine. Refuses one that is not what is left of a noted one, or was seen in this
+    /// look.
     pub(crate) fn see_obligation(&mut self, obligation: &Obligation) -> Result<(), Fault> {
         let Some(owed) = self.owed.get_mut(&obligation.number) else {
             return Err(Fault::OtherObligation);
@@ -205,7 +255,7 @@ impl Tally {
             return Err(Fault::ObligationTwice);
         }
         owed.seen = self.look;
-        if owed.obligation != *obligation {
+        if owed.left() != Some(*obligation) {
             return Err(Fault::OtherObligation);
         }
         Ok(())

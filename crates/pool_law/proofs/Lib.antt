@@ -1,0 +1,8 @@
+pub mod Below
+pub mod Beside
+pub mod Laws
+pub mod Legs
+pub mod Places
+pub mod Pools
+pub mod Promises
+pub mod Raised
