@@ -53,7 +53,7 @@ pub(crate) fn order(side: Side, number: u32, account: u32, quantity: u32, price:
     FullCall::Announce(announcement).into()
 }
 
-fn withdraw(number: u32) -> Call {
+pub(crate) fn withdraw(number: u32) -> Call {
     FullCall::Withdraw { number }.into()
 }
 
@@ -68,14 +68,14 @@ pub(crate) fn trade(number: u32, buy: u32, sell: u32, quantity: u32, price: u32)
     FullCall::Trade(deal).into()
 }
 
-fn post(participant: u16, amount: u64) -> Call {
+pub(crate) fn post(participant: u16, amount: u64) -> Call {
     Call::Post {
         participant,
         amount,
     }
 }
 
-fn debit(participant: u16, amount: u64) -> Call {
+pub(crate) fn debit(participant: u16, amount: u64) -> Call {
     Call::Debit {
         participant,
         amount,

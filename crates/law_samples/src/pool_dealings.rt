@@ -1,6 +1,8 @@
 //! Level Three's lists of calls.
 
-use crate::partial_dealings::{admit, open_cash, open_holding, open_limit, order, trade};
+use crate::partial_dealings::{
+    admit, debit, open_cash, open_holding, open_limit, order, post, trade, withdraw,
+};
 use full::call::Call as FullCall;
 use full::side::Side;
 use partial::call::Call as PartialCall;
@@ -45,9 +47,9 @@ fn pay(number: u32) -> Call {
 }
 
 /// Orders and trades in both modes, of which two trades in partial mode leave obligations; a pool in which one of them
-/// is settled, of the other the money alone, and a delivery is refused; then dealings with what it returned, and a
-/// second pool.
-pub(crate) fn settlement() -> [Call; 30] {
+/// is settled, of the other the money alone, and a delivery is refused; then dealings with what it returned, a third
+/// obligation, a second pool, limits that are posted and debited, and an order that is withdrawn.
+pub(crate) fn settlement() -> [Call; 33] {
     [
         handed(admit(1000)),
         handed(open_cash(701, 1000)),
@@ -79,6 +81,9 @@ pub(crate) fn settlement() -> [Call; 30] {
         deliver(2),
         Call::Close,
         full(announce(Side::Sell, 6, 701, 11, 1500)),
+        handed(post(7, 15)),
+        handed(debit(8, 50)),
+        handed(withdraw(1)),
     ]
 }
 
