@@ -1,13 +1,15 @@
 -- Fields of every width: what a write leaves to be read.
-use Rattle.std.proofs.Common.{◌≡◌, ℕ, zero, suc, ◌+◌, ◌-◌, ◌*◌, ◌/◌, ◌%◌, ◌^◌, ◌<◌, ◌≤◌, Bool, true, false, if◌then◌else◌, leb, ◌⊎◌, List, [], ◌∷◌, ◌++◌, length, get_or, take, drop, Some, None, sym, refl, ap, ◌∙◌, subst, inl, inr, pow-suc, arith, length-append, length-drop, length-take, le-leb, leb-true}
+use Rattle.std.proofs.Common.{◌≡◌, ℕ, zero, suc, ◌+◌, ◌-◌, ◌*◌, ◌/◌, ◌%◌, ◌^◌, ◌<◌, ◌≤◌, Bool, true, false, if◌then◌else◌, leb, ◌⊎◌, List, [], ◌∷◌, ◌++◌, length, get_or, take, drop, ℤ, Some, None, sym, refl, ap, ◌∙◌, subst, inl, inr, pow-suc, arith, length-append, length-drop, length-take, le-leb, leb-true, w64, SFits, to_z, of_z}
+use mir.Facts.{Fits-of_z}
 use native.Mathlib.Nat.{div-div-eq-div-mul}
 use Rattle.std.proofs.lemmas.List.{take_all, take_at, drop_all, drop_at, drop-take, drop-drop, drop-append-le, take-append-le, take-append-drop, length-take-le, take_more, append_assoc}
 use Rattle.std.proofs.ByRecursion.{All-get_or, All-take, All-drop}
 use Rattle.std.proofs.lemmas.Slice.{take-put_mid, take-put_mid_below, drop-put_mid, between-put_mid}
-use Rattle.std.proofs.lemmas.Int.Digits.{number_push}
+use Rattle.std.proofs.lemmas.Int.{to_z-of_z, of_z-to_z}
+use Rattle.std.proofs.lemmas.Int.Digits.{number_push, number_lt}
 use Rattle.std.proofs.lemmas.Nat.{div_below, div-add-mod', div-mul-add, mod-mul-add}
 use Rattle.std.specs.Int.Digits.{AllBelowBase}
-use Rattle.byte_fields.specs.Fields.{be, bytes_of, part, within, spliced, written_at, put_at, ReadBack, Rewritten}
+use Rattle.byte_fields.specs.Fields.{be, signed_be, bytes_of, signed_bytes_of, part, within, spliced, written_at, meant_at, ReadBack, Rewritten, SignedReadBack, SignedRewritten}
 
 pub length-bytes_of : (k n : ℕ) → length (bytes_of k n) ≡ k
 length-bytes_of zero n = refl
@@ -109,20 +111,32 @@ written_behind k j at ys zs s t is len fits =
     ∙ ap (spliced j (at + k) zs) is
     ∙ spliced-spliced k j at ys zs s (omega arith) len
 
-pub length-put_at : (k at n : ℕ) (s : List ℕ) → length (put_at k at n s) ≡ length s
-length-put_at k at n s = by (leb (k + at) (length s)) refl
+length-written_at : (k at : ℕ) (ys s : List ℕ) → length ys ≡ k → length (written_at k at ys s) ≡ length s
+length-written_at k at ys s len = by (leb (k + at) (length s)) refl
   where
-    by : (b : Bool) → leb (k + at) (length s) ≡ b → length (if b then spliced k at (bytes_of k n) s else s) ≡ length s
-    by true e = length-spliced k at (bytes_of k n) s (leb-true _ _ e) (length-bytes_of k n)
+    by : (b : Bool) → leb (k + at) (length s) ≡ b → length (if b then spliced k at ys s else s) ≡ length s
+    by true e = length-spliced k at ys s (leb-true _ _ e) len
     by false e = refl
 
+-- by any meaning of bytes: what was written means there what it means by itself
+meant_back : {X : Type 0} (f : List ℕ → X) (k at : ℕ) (ys s : List ℕ) → length ys ≡ k → within k at s ≡ true → meant_at f k at (written_at k at ys s) ≡ Some (f ys)
+meant_back {X = X} f k at ys s len w =
+    let h : k + at ≤ length s = leb-true _ _ w in
+    let l : length (written_at k at ys s) ≡ length s = length-written_at k at ys s len in
+    let t : within k at (written_at k at ys s) ≡ true = le-leb _ _ (omega arith) in
+    let p : part k at (written_at k at ys s) ≡ ys = ap (part k at) (written_within k at ys s h) ∙ part_same k at ys s h len in
+    ap (λ (b : Bool). if b then Some (f (part k at (written_at k at ys s))) else None) t ∙ ap (λ (x : List ℕ). Some (f x)) p
+
 pub read_back : ReadBack
-read_back k at n s h w =
-    let f : k + at ≤ length s = leb-true _ _ w in
-    let l : length (put_at k at n s) ≡ length s = length-put_at k at n s in
-    let t : within k at (put_at k at n s) ≡ true = le-leb _ _ (omega arith) in
-    let p : part k at (put_at k at n s) ≡ bytes_of k n = ap (part k at) (written_within k at (bytes_of k n) s f) ∙ part_same k at (bytes_of k n) s f (length-bytes_of k n) in
-    ap (λ (b : Bool). if b then Some (be (part k at (put_at k at n s))) else None) t ∙ ap (λ (ys : List ℕ). Some (be ys)) p ∙ ap Some (be-bytes_of k n h)
+read_back k at n s h w = meant_back be k at (bytes_of k n) s (length-bytes_of k n) w ∙ ap Some (be-bytes_of k n h)
+
+pub signed_back : (z : ℤ) → SFits w64 z → signed_be (signed_bytes_of z) ≡ z
+signed_back z f =
+    let l : of_z w64 z < 256 ^ 8 = (Fits-of_z f).fits in
+    ap (λ (n : ℕ). to_z w64 n) (be-bytes_of 8 (of_z w64 z) l) ∙ to_z-of_z w64 z f
+
+pub signed_read_back : SignedReadBack
+signed_read_back at z s f w = meant_back signed_be 8 at (signed_bytes_of z) s (length-bytes_of 8 (of_z w64 z)) w ∙ ap Some (signed_back z f)
 
 pub rewritten : Rewritten
 rewritten k at s u w =
@@ -131,6 +145,14 @@ rewritten k at s u w =
     written_within k at (bytes_of k (be (part k at s))) s f
     ∙ ap (λ (ys : List ℕ). spliced k at ys s) (bytes_of-be k (part k at s) l (All-take (λ x. x < 256) k (drop at s) (All-drop (λ x. x < 256) at s u)))
     ∙ spliced-part k at s
+
+pub signed_rewritten : SignedRewritten
+signed_rewritten at s u w =
+    let f : 8 + at ≤ length s = leb-true _ _ w in
+    let l : length (part 8 at s) ≡ 8 = length-take-le 8 (drop at s) (simp length-drop (omega arith)) in
+    let small : be (part 8 at s) < 256 ^ length (part 8 at s) = number_lt 256 (part 8 at s) (All-take (λ x. x < 256) 8 (drop at s) (All-drop (λ x. x < 256) at s u)) in
+    let n : be (part 8 at s) < 2 ^ 64 = subst (λ (k : ℕ). be (part 8 at s) < 256 ^ k) l small in
+    ap (λ (m : ℕ). written_at 8 at (bytes_of 8 m) s) (of_z-to_z w64 (be (part 8 at s)) n) ∙ rewritten 8 at s u w
 
 -- the eight bytes of a number, as `to_be_bytes` gives them, and the part of them that is written
 pub eight_bytes : (n : ℕ) → (n / 72057594037927936 % 256) ∷ (n / 281474976710656 % 256) ∷ (n / 1099511627776 % 256) ∷ (n / 4294967296 % 256) ∷ (n / 16777216 % 256) ∷ (n / 65536 % 256) ∷ (n / 256 % 256) ∷ (n % 256) ∷ [] ≡ bytes_of 8 n

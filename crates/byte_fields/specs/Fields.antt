@@ -1,5 +1,5 @@
 -- Numbers in bytes, the first byte the most.
-use Rattle.std.specs.Prelude.{◌≡◌, ℕ, zero, suc, ◌+◌, ◌/◌, ◌%◌, ◌^◌, ◌<◌, Bool, true, if◌then◌else◌, List, [], ◌∷◌, ◌++◌, length, take, drop, ℤ, Some, None, Option, ◌==◌, nat_le}
+use Rattle.std.specs.Prelude.{◌≡◌, ℕ, zero, suc, ◌+◌, ◌/◌, ◌%◌, ◌^◌, ◌<◌, Bool, true, if◌then◌else◌, List, [], ◌∷◌, ◌++◌, length, take, drop, ℤ, Some, None, Option, ◌==◌, nat_le, FitsSigned}
 use Rattle.std.specs.Int.{w64, cast_signed, cast_unsigned}
 use Rattle.std.specs.Int.Digits.{number_from_digits, AllBelowBase}
 
@@ -65,3 +65,10 @@ ReadBack = (k at n : ℕ) (s : List ℕ) → n < 256 ^ k → within k at s ≡ t
 -- read then write: the bytes come back, at every width and place
 abbrev pub Rewritten : Type 0
 Rewritten = (k at : ℕ) (s : List ℕ) → AllBelowBase 256 s → within k at s ≡ true → put_at k at (be (part k at s)) s ≡ s
+
+-- the same of signed numbers of 64 bits
+abbrev pub SignedReadBack : Type 0
+SignedReadBack = (at : ℕ) (z : ℤ) (s : List ℕ) → FitsSigned w64 z → within 8 at s ≡ true → meant_at signed_be 8 at (written_at 8 at (signed_bytes_of z) s) ≡ Some z
+
+abbrev pub SignedRewritten : Type 0
+SignedRewritten = (at : ℕ) (s : List ℕ) → AllBelowBase 256 s → within 8 at s ≡ true → written_at 8 at (signed_bytes_of (signed_be (part 8 at s))) s ≡ s

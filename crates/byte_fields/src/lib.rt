@@ -6,7 +6,7 @@
 #![tactic(auto)]
 
 ghost use Rattle.std.specs.Prelude.{◌≡◌, ℕ, ◌+◌, ◌*◌, ◌^◌, ◌<◌, ◌≤◌, List, length, is_ok, IfSome, nat_le};
-ghost use Rattle.byte_fields.specs.Fields.{be, bytes_of, signed_be, signed_bytes_of, fills, meant_by, written_over, within, meant_at, written_at, ReadBack, Rewritten};
+ghost use Rattle.byte_fields.specs.Fields.{be, bytes_of, signed_be, signed_bytes_of, fills, meant_by, written_over, within, meant_at, written_at, ReadBack, Rewritten, SignedReadBack, SignedRewritten};
 
 /// A number that stands in a field of a fixed width, the first byte the most.
 pub trait Field: Copy {
@@ -60,11 +60,13 @@ pub fn write<T: Field>(bytes: &mut [u8], at: usize, value: T) -> Result<(), Outs
     value.write_to(&mut bytes[at..at + T::WIDTH])
 }
 
-/// At every width and every place: a number that was written reads back as itself, and a field that
-/// is written with the number it holds leaves the bytes as they stood.
+/// At every width and every place, and of signed numbers too: a number that was written reads back as
+/// itself, and a field that is written with the number it holds leaves the bytes as they stood.
 pub fn fields_round_trip()
     ensures written { ReadBack }
     ensures read { Rewritten }
+    ensures signed_written { SignedReadBack }
+    ensures signed_read { SignedRewritten }
 {}
 
 // one impl for each number, by hand: the gate refuses an impl that a macro of the repository wrote

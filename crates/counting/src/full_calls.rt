@@ -1,8 +1,8 @@
-//! What calls of Level One count.
+//! What calls of Level One do over a store that is counted.
 
-ghost use Rattle.std.specs.Prelude.{◌≡◌, OnErr, length, take};
-ghost use Rattle.plans.specs.Plans.{answer_of};
-ghost use Rattle.plans.specs.Runs.{changes_over};
+ghost use Rattle.std.specs.Prelude.{◌≡◌, OnErr, ◌++◌, length, take, drop};
+ghost use Rattle.plans.specs.Plans.{answer_of, left_by, changes_by};
+ghost use Rattle.plans.specs.Runs.{outcomes_of, state_after, changes_over};
 ghost use Rattle.counting.specs.Counts.{counted_on, count_after};
 ghost use Rattle.full.specs.Plans.{call_of};
 ghost use Rattle.full.specs.Trades.{trade_of};
@@ -16,19 +16,27 @@ use plans::refusal::Refusal;
 use registers::store::Store;
 
 /// Carries out any call over a store that is counted: the count grows by the changes of the call's plan,
-/// and a refused call adds none.
+/// and a refused call adds none. Answer, state and the store beneath are as the plan says.
 pub fn counted_call<S: Store>(engine: &mut Engine<Counting<S>>, call: Call) -> Result<i64, Refusal>
     ensures answer { result ≡ answer_of (call_of engine.old.state call) }
+    ensures state { engine.new.state ≡ left_by engine.old.state (call_of engine.old.state call) }
     ensures count { let plan = call_of engine.old.state call in
         engine.new.store.count ≡ count_after engine.old.store.count plan }
+    ensures inner { let plan = call_of engine.old.state call in
+        S.Store.made engine.old.store.inner (changes_by plan) engine.new.store.inner }
     ensures refused { OnErr result (engine.new.store.count ≡ engine.old.store.count) }
 {
     engine.carry_out(call)
 }
 
-/// Carries out a trade over a store that is counted; answers the count after it.
+/// Carries out a trade over a store that is counted; answers the count after it. State and the store
+/// beneath are as the trade's plan says.
 pub fn counted_trade<S: Store>(engine: &mut Engine<Counting<S>>, deal: Deal) -> u64
-    ensures { result ≡ count_after engine.old.store.count (trade_of engine.old.state deal) }
+    ensures count { result ≡ count_after engine.old.store.count (trade_of engine.old.state deal) }
+    ensures state { engine.new.state ≡ left_by engine.old.state (trade_of engine.old.state deal) }
+    ensures kept { engine.new.store.count ≡ result }
+    ensures inner { let plan = trade_of engine.old.state deal in
+        S.Store.made engine.old.store.inner (changes_by plan) engine.new.store.inner }
 {
     let _answer = engine.trade(deal);
     engine.store.changes()
@@ -40,8 +48,16 @@ pub fn counted_run<S: Store>(
     calls: &[Call],
     outcomes: &mut [Result<i64, Refusal>],
 ) -> u64
-    ensures { let made = take (length outcomes.old) calls.now in
+    ensures count { let made = take (length outcomes.old) calls.now in
         result ≡ counted_on engine.old.store.count (changes_over call_of engine.old.state made) }
+    ensures told { let made = take (length outcomes.old) calls.now in
+        outcomes.new ≡ outcomes_of call_of engine.old.state made ++ drop (length calls.now) outcomes.old }
+    ensures state { let made = take (length outcomes.old) calls.now in
+        engine.new.state ≡ state_after call_of engine.old.state made }
+    ensures kept { engine.new.store.count ≡ result }
+    ensures inner { let made = take (length outcomes.old) calls.now in
+        S.Store.made engine.old.store.inner (changes_over call_of engine.old.state made)
+        engine.new.store.inner }
 {
     carry_all(engine, calls, outcomes);
     engine.store.changes()

@@ -72,9 +72,9 @@ body_of (records.Withdraw number rest) = bytes_of 4 number ++ rest.now
 body_of (records.Trade number rest) = bytes_of 4 number ++ rest.now
 body_of (records.Debit participant rest) = bytes_of 2 participant ++ rest.now
 
--- all its bytes: its letter and its fields
-abbrev pub spelled : Record → List ℕ
-spelled r = letter_of (kind_of r) ∷ body_of r
+-- all bytes of a record: its letter and its fields
+abbrev pub record_bytes : Record → List ℕ
+record_bytes r = letter_of (kind_of r) ∷ body_of r
 
 -- the refusal number of each fault
 abbrev pub fault_number : FileFault → ℕ

@@ -3,13 +3,12 @@ use Rattle.std.specs.Prelude.{◌≡◌, ℕ, ◌^◌, ◌<◌, ◌≤◌, ⊤, 
 use Rattle.std.specs.Iterator.{YieldsFirstBy}
 use Rattle.std.specs.Option.{option_map}
 use Rattle.day_records.specs.declared.day_file.DayFile.{DayFile}
-use Rattle.day_records.specs.declared.day_file.TheConstants.{HEADER_LENGTH}
 use Rattle.day_records.specs.declared.reader.Reader.{Reader}
 use Rattle.day_records.specs.declared.fault.FileFault.{FileFault}
 use Rattle.day_records.specs.declared.misread.Misread.{Misread}
 use Rattle.day_records.specs.declared.placed_record.PlacedRecord.{PlacedRecord}
 use Rattle.day_records.specs.Kinds.{kind_of, body_of}
-use Rattle.day_records.specs.Items.{Item, Seen, Bad, item_at, place_after, items_from}
+use Rattle.day_records.specs.Items.{Item, Seen, Bad, header_length, item_at, place_after, items_from}
 
 -- the header's reserve or fault
 abbrev pub header_as : Result DayFile FileFault → Result ℕ FileFault
@@ -18,7 +17,7 @@ header_as (Err f) = Err f
 
 -- records are read from the file itself, behind its header
 abbrev pub IsBehindHeader : Result DayFile FileFault → List ℕ → Type 0
-IsBehindHeader (Ok d) s = (d.records.bytes.now ≡ s) × (d.records.place ≡ HEADER_LENGTH)
+IsBehindHeader (Ok d) s = (d.records.bytes.now ≡ s) × (d.records.place ≡ header_length)
 IsBehindHeader (Err f) s = ⊤
 
 -- a record, and an answer, as an item of the file

@@ -3,7 +3,7 @@
 ghost use Rattle.std.specs.Prelude.{◌≡◌, ◌<◌, ◌≤◌, Some, IsSome, length, slice_index};
 ghost use Rattle.std.specs.Iterator.{item_count};
 ghost use Rattle.day_records.specs.Items.{item_at};
-ghost use Rattle.day_records.specs.Kinds.{kind_for, spelled};
+ghost use Rattle.day_records.specs.Kinds.{kind_for, record_bytes};
 ghost use Rattle.day_records.specs.Views.{item_as, told_as, items_left, Reads};
 
 use crate::fault::FileFault;
@@ -25,7 +25,7 @@ pub struct Reader<'a> {
 fn record<'a>(bytes: &'a [u8]) -> Record<'a>
     requires known { IsSome (kind_for (slice_index bytes.now 0)) }
     requires long { 5 ≤ length bytes.now }
-    ensures { spelled result ≡ bytes.now }
+    ensures { record_bytes result ≡ bytes.now }
 {
     match bytes {
         [b'A', s0, s1, rest @ ..] => Record::Admit {

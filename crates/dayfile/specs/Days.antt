@@ -45,33 +45,35 @@ called (Registers place) items = []
 abbrev pub calls_left : {S : Type 0} {members : Ghosts S} → Day S members → List Call
 calls_left d = called d.stage (items_left d.records)
 
--- once the next line is told: a record that is read is carried out, and no other line moves anything
-abbrev pub state_behind : ListingStage → Option Item → State → State
-state_behind Records (Some (Seen k body place)) s = left_of s (call_for k body)
-state_behind Records (Some (Bad fault place)) s = s
-state_behind Records None s = s
-state_behind (Header fault) item s = s
-state_behind (Registers place) item s = s
+-- what the next line carries out: of a record that is read, the call that it asks for; of any other line, nothing
+abbrev pub carried_out : ListingStage → Option Item → Option (Result Call FileFault)
+carried_out Records (Some (Seen k body place)) = Some (call_for k body)
+carried_out Records (Some (Bad fault place)) = None
+carried_out Records None = None
+carried_out (Header fault) item = None
+carried_out (Registers place) item = None
 
-abbrev pub changes_behind : ListingStage → Option Item → State → List Change
-changes_behind Records (Some (Seen k body place)) s = changes_in s (call_for k body)
-changes_behind Records (Some (Bad fault place)) s = []
-changes_behind Records None s = []
-changes_behind (Header fault) item s = []
-changes_behind (Registers place) item s = []
+abbrev pub carried_next : {S : Type 0} {members : Ghosts S} → Day S members → Option (Result Call FileFault)
+carried_next d = carried_out d.stage (item_next d.records)
 
-abbrev pub calls_before : ListingStage → Option Item → List Call → List Call
-calls_before Records (Some (Seen k body place)) cs = with_call (call_for k body) cs
-calls_before Records (Some (Bad fault place)) cs = cs
-calls_before Records None cs = cs
-calls_before (Header fault) item cs = cs
-calls_before (Registers place) item cs = cs
+-- the state behind it, its changes to the store, and the calls that were left before it
+abbrev pub state_behind : Option (Result Call FileFault) → State → State
+state_behind (Some r) s = left_of s r
+state_behind None s = s
+
+abbrev pub changes_behind : Option (Result Call FileFault) → State → List Change
+changes_behind (Some r) s = changes_in s r
+changes_behind None s = []
+
+abbrev pub calls_before : Option (Result Call FileFault) → List Call → List Call
+calls_before (Some r) cs = with_call r cs
+calls_before None cs = cs
 
 -- how one line moves the engine's state, its store, and the calls that are left
 pub record Advances {S : Type 0} {store : Ghosts S} (before after : Day S store) : Type 0 where
-  pub state : after.engine.state ≡ state_behind before.stage (item_next before.records) before.engine.state
-  pub changes : store.made before.engine.store (changes_behind before.stage (item_next before.records) before.engine.state) after.engine.store
-  pub calls : calls_left before ≡ calls_before before.stage (item_next before.records) (calls_left after)
+  pub state : after.engine.state ≡ state_behind (carried_next before) before.engine.state
+  pub changes : store.made before.engine.store (changes_behind (carried_next before) before.engine.state) after.engine.store
+  pub calls : calls_left before ≡ calls_before (carried_next before) (calls_left after)
 
 -- one call of a day: it tells the first of the lines that were left, and leaves the others
 pub record Tells {S : Type 0} {store : Ghosts S} (before : Day S store) (r : Option Line) (after : Day S store) : Type 0 where

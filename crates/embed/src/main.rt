@@ -8,7 +8,7 @@ use full::opening::Opening;
 use full::settings::Settings;
 use full::side::Side;
 use plans::refusal::Refusal;
-use registers::image::{self, ImageStore};
+use registers::image::{self, HEADER, ImageStore, ROW};
 use registers::kind::RegisterKind;
 use registers::store::Store;
 use std::io;
@@ -20,6 +20,14 @@ const CASH: Opening = Opening {
     security: 0,
     limit: 201,
     margin: 0,
+};
+
+/// The same account's holding of security 5, empty yet.
+const HOLDING: Opening = Opening {
+    kind: RegisterKind::Holding as u8,
+    security: 5,
+    limit: 0,
+    ..CASH
 };
 
 /// Order 1: account 701 buys 2 of security 5 at 50 ten-thousandths of a ruble, with full collateral.
@@ -42,15 +50,9 @@ fn main(rt: HostRuntime) -> io::Result<()> {
 
     // each call answers a number, or is refused and changes nothing
     let mut engine = Engine::new(ImageStore::new(&mut bytes), Settings { reserve: 200 });
-    let holding = Opening {
-        kind: RegisterKind::Holding as u8,
-        security: 5,
-        limit: 0,
-        ..CASH
-    };
     tell(&rt, "admit 5 1000", engine.admit(5, 1000))?;
     tell(&rt, "open 1 701 0 201", engine.open(CASH))?;
-    tell(&rt, "open 2 701 5 0", engine.open(holding))?;
+    tell(&rt, "open 2 701 5 0", engine.open(HOLDING))?;
     tell(&rt, "buy 1 701 2 at 50", engine.announce(PURCHASE))?;
     tell(&rt, "withdraw 1", engine.withdraw(1))?;
     tell(&rt, "withdraw 1", engine.withdraw(1))?;
@@ -81,7 +83,7 @@ fn show_rows(rt: &HostRuntime, mut store: ImageStore<'_>) -> io::Result<()> {
 /// Prints the image in hex: a line for the header, one for each row, and one for what is left.
 fn show_image(rt: &HostRuntime, bytes: &[u8]) -> io::Result<()> {
     for (place, byte) in bytes.iter().enumerate() {
-        if place >= 7 && (place - 7) % 31 == 0 {
+        if place >= HEADER && (place - HEADER) % ROW == 0 {
             println!(rt; "")?;
         }
         print!(rt; "{byte:02X}")?;

@@ -16,11 +16,12 @@ use Rattle.full.specs.declared.announcement.Announcement.{Announcement}
 use Rattle.full.specs.declared.mode.Mode.TheVariants.{Full}
 use Rattle.full.specs.declared.opening.Opening.{Opening}
 use Rattle.full.specs.Orders.{Live, admitted_as}
-use Rattle.full.specs.Terms.{between, code_ok, security_ok, amount_ok, limit_ok, mode_number}
+use Rattle.full.specs.Terms.{between, code_ok, security_ok, asset_ok, amount_ok, limit_ok, mode_number}
 use Rattle.full.specs.State.{State, Step, with_rows, with_securities, with_orders, with_last_order}
 use Rattle.full.specs.Checks.{PlacedOf, ready_of, found_of}
 use Rattle.plans.specs.Steps.{and_then, demand, or_refuse}
-use Rattle.full.specs.OpenRegisters.{register_at, block_on, release_on, credit_on, rows_with, floor_of, moving}
+use Rattle.full.specs.OpenRegisters.{register_at, block_on, release_on, credit_on, rows_with, floor_of, moving, replaced, replacing}
+use Rattle.full.specs.Assets.{asset_named, asset_key}
 use Rattle.full.specs.Blocks.{cash_key, holding_key, key_of, units_of}
 
 -- admit: 5, 3, 4; answers the count of securities
@@ -66,15 +67,11 @@ open_of s o =
     demand (k.kind == kind_number Cash || is_some (admitted_as s.securities k.security)) NotAdmitted
     (enter_of s (beginning k o.limit)))
 
--- the register that a code and a security, or 0 for cash, name
-abbrev pub asset_key : ℕ → ℕ → Key
-asset_key code security = if security == 0 then cash_key code else holding_key code security
-
 -- credit: 5, 6, 25, 26; answers the new limit
 unfoldable pub credit_of : State → ℕ → ℕ → ℕ → Step
 credit_of s code security amount =
-    demand (code_ok code && ((security == 0 || security_ok security) && amount_ok amount)) BadValue
-    (and_then (register_at s.rows (asset_key code security)) (λ h.
+    demand (asset_ok code security && amount_ok amount) BadValue
+    (and_then (register_at s.rows (asset_key (asset_named security) code)) (λ h.
     and_then (credit_on h amount) (λ c.
     Ok (record { answer = c.figures.limit; changes = moving h.place h.figures c.figures; next = with_rows s (rows_with s.rows c) }))))
 
@@ -89,14 +86,15 @@ cover_at rs o =
     and_then (register_at rs (holding_key o.account o.security)) (λ holding.
     Ok (cover_of o cash holding)))
 
--- an order takes its place, and its block lies on a register: 25, 10; answers the block
+-- an order takes its place, and its block lies on a register, by its figures as they were read: 25, 10; answers the
+-- block
 unfoldable pub placed_of : State → PlacedOf → OpenRegister → Step
 placed_of s r h =
     and_then (block_on h (units_of r.order) (floor_of s.settings.reserve (key_of r.order))) (λ b.
     Ok (record {
       answer = pos (units_of r.order);
-      changes = moving h.place h.figures b.figures;
-      next = with_last_order (with_orders (with_rows s (rows_with s.rows b)) (slice_set s.orders r.place (Some r.order))) r.order.number;
+      changes = replacing s.rows h.place h.figures b.figures;
+      next = with_last_order (with_orders (with_rows s (replaced s.rows h.place h.figures b.figures)) (slice_set s.orders r.place (Some r.order))) r.order.number;
     }))
 
 -- announce: 5, 8, 7, 9, 6, 25, 10; answers the block. This level answers 5 to partial mode.

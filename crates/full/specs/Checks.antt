@@ -1,7 +1,7 @@
 -- The checks of announcements and trades up to the registers.
-use Rattle.std.specs.Prelude.{ℕ, Bool, true, false, not, ◌&&◌, List, Some, None, Ok, Err, Option, Result, ◌==◌, nat_le, nat_lt, slice_index_or}
+use Rattle.std.specs.Prelude.{ℕ, Bool, true, false, not, ◌&&◌, List, None, Ok, Option, Result, ◌==◌, nat_le, nat_lt, slice_index_or}
 use Rattle.plans.specs.declared.refusal.Refusal.{Refusal}
-use Rattle.plans.specs.declared.refusal.Refusal.TheVariants.{BadValue, NotAdmitted, OrderNumber, OrdersFull, NoOrder, TradeNumber, WrongSide, Mismatch, SameAccount, AboveRest, PriceOutside}
+use Rattle.plans.specs.declared.refusal.Refusal.TheVariants.{BadValue, NotAdmitted, OrderNumberNotAbove, OrdersFull, NoOrder, TradeNumberNotAbove, WrongSide, Mismatch, SameAccount, AboveRest, PriceOutside}
 use Rattle.full.specs.declared.side.Side.{Side}
 use Rattle.full.specs.declared.side.Side.TheVariants.{Buy, Sell}
 use Rattle.full.specs.declared.mode.Mode.{Mode}
@@ -24,22 +24,17 @@ announced a t k = record { number = a.number; side = a.side; mode = t.mode; acco
 unfoldable pub ready_of : List Admitted → List (Option Live) → ℕ → Announcement → Result PlacedOf Refusal
 ready_of ss os last a =
     and_then (or_refuse (terms_of a) BadValue) (λ t.
-    demand (nat_lt last a.number) OrderNumber
+    demand (nat_lt last a.number) OrderNumberNotAbove
     (and_then (or_refuse (admitted_as ss a.security) NotAdmitted) (λ k.
     and_then (or_refuse (free_place os) OrdersFull) (λ i.
     Ok (record { place = i; order = announced a t k })))))
 
 -- a live order and its place
-abbrev pub found_in : ℕ → Option Live → Result PlacedOf Refusal
-found_in i None = Err NoOrder
-found_in i (Some o) = Ok (record { place = i; order = o })
-
-abbrev pub found_from : List (Option Live) → Option ℕ → Result PlacedOf Refusal
-found_from os None = Err NoOrder
-found_from os (Some i) = found_in i (slice_index_or os i None)
-
 unfoldable pub found_of : List (Option Live) → ℕ → Result PlacedOf Refusal
-found_of os n = found_from os (place_of_order n os)
+found_of os n =
+    and_then (or_refuse (place_of_order n os) NoOrder) (λ i.
+    and_then (or_refuse (slice_index_or os i None) NoOrder) (λ o.
+    Ok (record { place = i; order = o })))
 
 abbrev pub is_buy : Side → Bool
 is_buy Buy = true
@@ -76,7 +71,7 @@ matched_of p =
 unfoldable pub pair_of : List (Option Live) → ℕ → Deal → Result PairOf Refusal
 pair_of os last d =
     and_then (or_refuse (bargain_of d) BadValue) (λ b.
-    demand (nat_lt last d.number) TradeNumber
+    demand (nat_lt last d.number) TradeNumberNotAbove
     (and_then (found_of os d.buy) (λ x.
     and_then (found_of os d.sell) (λ y.
     matched_of (record { buy_place = x.place; sell_place = y.place; buy = x.order; sell = y.order; quantity = b.quantity; price = b.price })))))

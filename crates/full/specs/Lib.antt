@@ -1,6 +1,7 @@
 pub mod Orders
 pub mod Terms
 pub mod Blocks
+pub mod Assets
 pub mod Checks
 pub mod Views
 pub mod State

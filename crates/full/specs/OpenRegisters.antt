@@ -10,7 +10,7 @@ use Rattle.registers.specs.declared.fault.StoreFault.TheVariants.{NotOpen, OutOf
 use Rattle.registers.specs.declared.kind.RegisterKind.TheVariants.{Cash}
 use Rattle.registers.specs.Registers.{in_range, kind_number}
 use Rattle.registers.specs.Stores.{place_for, put_row}
-use Rattle.registers.specs.Changes.{Change, Put}
+use Rattle.registers.specs.Changes.{Change, Put, put_changes}
 use Rattle.full.specs.declared.open_register.OpenRegister.{OpenRegister}
 use Rattle.plans.specs.declared.refusal.Refusal.{Refusal}
 use Rattle.plans.specs.declared.refusal.Refusal.TheVariants.{Store, NotCovered, LeavesRange}
@@ -31,6 +31,10 @@ register_at rs k = register_from rs (place_for k rs)
 -- the figures that stand at a place
 abbrev pub FiguresAt : List Row → ℕ → Figures → Type 0
 FiguresAt rs i f = option_map (λ r. r.figures) (slice_get rs i) ≡ Some f
+
+-- figures of 0
+abbrev pub no_figures : Figures
+no_figures = record { limit = pos 0; blocked = pos 0; third = pos 0 }
 
 -- figures with another limit, and with another blocked figure
 abbrev pub with_limit : Figures → ℤ → Figures
@@ -88,6 +92,14 @@ same_figures f g = int_eq f.limit g.limit && (int_eq f.blocked g.blocked && int_
 
 abbrev pub moving : ℕ → Figures → Figures → List Change
 moving n f g = if same_figures f g then [] else Put n g ∷ []
+
+-- the rows once figures g come in place of figures f that were read at a place, whatever stands there, and the changes
+-- that this is: where the two are the same, the same rows and no change
+unfoldable pub replaced : List Row → ℕ → Figures → Figures → List Row
+replaced rs n f g = if same_figures f g then rs else put_row rs n g
+
+unfoldable pub replacing : List Row → ℕ → Figures → Figures → List Change
+replacing rs n f g = if same_figures f g then [] else put_changes rs n g
 
 -- a figure that is raised stays so if it is confirmed, and else is as it was
 abbrev pub after_guard : Bool → ℤ → ℤ → ℤ

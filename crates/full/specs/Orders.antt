@@ -1,5 +1,5 @@
 -- The engine's state, as the rules speak of it.
-use Rattle.std.specs.Prelude.{ℕ, ◌-◌, Bool, true, false, if◌then◌else◌, List, map, Some, None, Option, ◌==◌, nat_eq, nat_le}
+use Rattle.std.specs.Prelude.{ℕ, ◌-◌, Bool, false, if◌then◌else◌, List, map, is_none, Some, None, Option, ◌==◌, nat_eq, nat_le}
 use Rattle.std.specs.List.{slice_get}
 use Rattle.std.specs.Option.{option_map}
 use Rattle.seek.specs.Place.{place_of}
@@ -42,20 +42,16 @@ admitted_of s = record { number = s.number; ratio = s.ratio.value }
 abbrev pub list_of : Securities → List Admitted
 list_of s = map admitted_of s.list.items
 
--- whether a place of the book holds the order of a number, and whether it is free
+-- whether a place of the book holds the order of a number
 abbrev pub has_number : ℕ → Option Live → Bool
 has_number n None = false
 has_number n (Some o) = o.number == n
-
-abbrev pub is_free : Option Live → Bool
-is_free None = true
-is_free (Some o) = false
 
 abbrev pub place_of_order : ℕ → List (Option Live) → Option ℕ
 place_of_order n os = place_of (has_number n) os
 
 abbrev pub free_place : List (Option Live) → Option ℕ
-free_place os = place_of is_free os
+free_place os = place_of is_none os
 
 -- an order with another rest, and its place once q of it are traded: free where nothing is left
 abbrev pub resting : Live → ℕ → Live

@@ -1,5 +1,5 @@
 -- The ranges of a call's arguments.
-use Rattle.std.specs.Prelude.{ℕ, Bool, if◌then◌else◌, ◌&&◌, Some, None, Option, ◌==◌, nat_le}
+use Rattle.std.specs.Prelude.{ℕ, Bool, if◌then◌else◌, ◌&&◌, ◌||◌, Some, None, Option, ◌==◌, nat_le}
 use Rattle.full.specs.declared.ranges.TheConstants.{LEAST_ACCOUNT, MOST_ACCOUNT, MOST_SECURITY, MOST_LIMIT}
 use Rattle.registers.specs.declared.ranges.TheConstants.{MOST_PRICE, MOST_QUANTITY}
 use Rattle.full.specs.declared.mode.Mode.{Mode}
@@ -12,13 +12,18 @@ use Rattle.full.specs.declared.bargain.Bargain.{Bargain}
 abbrev pub between : ℕ → ℕ → ℕ → Bool
 between least most n = nat_le least n && nat_le n most
 
--- account codes, securities, and the numbers of orders and trades from 1 on
+-- account codes, and securities
 unfoldable pub code_ok : ℕ → Bool
 code_ok c = between LEAST_ACCOUNT MOST_ACCOUNT c
 
 unfoldable pub security_ok : ℕ → Bool
 security_ok n = between 1 MOST_SECURITY n
 
+-- an account code, and the security that a call names, or 0 for cash
+unfoldable pub asset_ok : ℕ → ℕ → Bool
+asset_ok code security = code_ok code && (security == 0 || security_ok security)
+
+-- the numbers of orders and trades: from 1 on
 unfoldable pub number_ok : ℕ → Bool
 number_ok n = nat_le 1 n
 

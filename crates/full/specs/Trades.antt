@@ -1,6 +1,6 @@
 -- What a trade does: its checks in their order, the registers that it moves, and the state it leaves.
-use Rattle.std.specs.Prelude.{ℕ, if◌then◌else◌, List, [], ◌∷◌, ◌++◌, pos, None, Ok, Option, Result, ◌==◌, nat_lt, slice_index_or, slice_set}
-use Rattle.std.specs.List.{list_all}
+use Rattle.std.specs.Prelude.{◌≡◌, ℕ, ◌<◌, Bool, if◌then◌else◌, ◌&&◌, ◌||◌, List, [], ◌∷◌, ◌++◌, pos, None, Ok, Option, Result, ◌==◌, nat_lt, slice_index_or, slice_set}
+use Rattle.std.specs.List.{AllByRecursion, list_all}
 use Rattle.registers.specs.declared.figures.Figures.{Figures}
 use Rattle.registers.specs.declared.row.Row.{Row}
 use Rattle.registers.specs.declared.fault.StoreFault.TheVariants.{OutOfRange}
@@ -17,7 +17,7 @@ use Rattle.full.specs.declared.deal.Deal.{Deal}
 use Rattle.full.specs.Orders.{Live, lowered}
 use Rattle.full.specs.State.{State, Step, with_rows, with_orders, with_last_trade}
 use Rattle.plans.specs.Steps.{and_then, demand}
-use Rattle.full.specs.OpenRegisters.{register_at, FiguresAt, moving, paid_of, limit_raised}
+use Rattle.full.specs.OpenRegisters.{register_at, FiguresAt, moving, replaced, replacing, paid_of, limit_raised}
 use Rattle.full.specs.Blocks.{cash_key, holding_key}
 use Rattle.full.specs.Checks.{PairOf, is_full, pair_of}
 
@@ -34,6 +34,10 @@ trade_registers_of rs buyer seller security =
 abbrev pub move_to : OpenRegister → Figures → Move
 move_to h f = record { place = h.place; before = h.figures; after = f }
 
+-- whether the registers of two moves end in range: where both are of one, it ends where the second move does
+abbrev pub ends_in_range : Move → Move → Bool
+ends_in_range m n = in_range n.after && (m.place == n.place || in_range m.after)
+
 -- the moves of a trade: each register's, in the order above
 abbrev pub moves_of : TradeRegisters → ℕ → ℕ → ℕ → List Move
 moves_of r q value block =
@@ -44,8 +48,8 @@ moves_of r q value block =
     ∷ []
 
 -- checks 25 and 26, each over all four
-unfoldable pub settle_of : TradeRegisters → ℕ → ℕ → ℕ → Result (List Move) Refusal
-settle_of r q value block =
+unfoldable pub ended_of : TradeRegisters → ℕ → ℕ → ℕ → Result (List Move) Refusal
+ended_of r q value block =
     demand (list_all in_range (r.buyer_cash.figures ∷ r.seller_cash.figures ∷ r.buyer_holding.figures ∷ r.seller_holding.figures ∷ [])) (Store OutOfRange)
     (demand (list_all (λ m. in_range m.after) (moves_of r q value block)) LeavesRange
     (Ok (moves_of r q value block)))
@@ -84,7 +88,7 @@ changes_of (m ∷ ms) = moving m.place m.before m.after ++ changes_of ms
 unfoldable pub exchange_of : List Row → PairOf → Result (List Move) Refusal
 exchange_of rs p =
     and_then (trade_registers_of rs p.buy.account p.sell.account p.buy.security) (λ r.
-    settle_of r p.quantity (money_of p.quantity p.price) (money_of p.quantity p.buy.price))
+    ended_of r p.quantity (money_of p.quantity p.price) (money_of p.quantity p.buy.price))
 
 -- an order's rest, lowered in its place
 abbrev pub lower_at : List (Option Live) → ℕ → ℕ → List (Option Live)
@@ -103,7 +107,31 @@ trade_of s d =
       next = with_last_trade (with_orders (with_rows s (moved_all s.rows ms)) (lower_at (lower_at s.orders p.buy_place p.quantity) p.sell_place p.quantity)) d.number;
     }))))
 
+-- the rows once moves are put one after the other, whatever stands at their places, and the changes that this is
+unfoldable pub replaced_all : List Row → List Move → List Row
+replaced_all rs [] = rs
+replaced_all rs (m ∷ ms) = replaced_all (replaced rs m.place m.before m.after) ms
+
+unfoldable pub replacing_all : List Row → List Move → List Change
+replacing_all rs [] = []
+replacing_all rs (m ∷ ms) = replacing rs m.place m.before m.after ++ replacing_all (replaced rs m.place m.before m.after) ms
+
 -- moves each of which starts from what stands once those before it are put
 abbrev pub Following : List Row → List Move → Type 0
 Following rs [] = Unit {0}
 Following rs (m ∷ ms) = FiguresAt rs m.place m.before × Following (moved rs m) ms
+
+-- moves of places that rise: one for each place, the lowest place first
+abbrev pub Above : ℕ → List Move → Type 0
+Above n ms = AllByRecursion (λ (m : Move). n < m.place) ms
+
+abbrev pub Rising : List Move → Type 0
+Rising [] = Unit {0}
+Rising (m ∷ ms) = Above m.place ms × Rising ms
+
+-- moves in order are so, and moves that follow one another lead to the same rows in order
+abbrev pub OrderedRising : Type 0
+OrderedRising = (ms : List Move) → Rising (in_order ms)
+
+abbrev pub OrderedLeads : Type 0
+OrderedLeads = (rs : List Row) (ms : List Move) → Following rs ms → Following rs (in_order ms) × (moved_all rs (in_order ms) ≡ moved_all rs ms)

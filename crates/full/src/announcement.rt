@@ -14,8 +14,8 @@ use crate::side::Side;
 use crate::terms::Terms;
 use plans::refusal::Refusal;
 
-/// The arguments of an announcement: mode 1 is full collateral, mode 2 partial; the price counts
-/// ten-thousandths of a ruble.
+/// The arguments of an announcement: mode 1 is full collateral, mode 2 partial; the quantity counts pieces,
+/// and the price ten-thousandths of a ruble.
 #[derive(Clone, Copy, PartialEq, Eq, Debug)]
 pub struct Announcement {
     pub side: Side,
@@ -39,7 +39,7 @@ impl Announcement {
     {
         let terms = Terms::try_from(self)?;
         if self.number <= book.last_order {
-            return Err(Refusal::OrderNumber);
+            return Err(Refusal::OrderNumberNotAbove);
         }
         let ratio = securities.ratio(self.security).ok_or(Refusal::NotAdmitted)?;
         let place = book.free_place().ok_or(Refusal::OrdersFull)?;

@@ -1,55 +1,34 @@
 //! The calls of Level One, but for the trade.
 
-ghost use Rattle.std.specs.Prelude.{◌≡◌, IfOk, OnErr};
-ghost use Rattle.plans.specs.Plans.{Done, answer_of};
+ghost use Rattle.std.specs.Prelude.{◌≡◌, IfOk};
+ghost use Rattle.plans.specs.Plans.{Done};
 ghost use Rattle.registers.specs.Changes.{OnlyAsked};
 ghost use Rattle.full.specs.Orders.{live_of};
 ghost use Rattle.full.specs.Views.{placed_as};
-ghost use Rattle.full.specs.OpenRegisters.{FiguresAt, floor_of};
-ghost use Rattle.full.specs.Calls.{admit_of, enter_of, open_of, asset_key, credit_of, cover_at, placed_of, announce_of, withdraw_of};
+ghost use Rattle.full.specs.OpenRegisters.{FiguresAt};
+ghost use Rattle.full.specs.Calls.{admit_of, enter_of, open_of, credit_of, cover_at, placed_of, announce_of, withdraw_of};
 
 use crate::announcement::Announcement;
+use crate::asset::Asset;
 use crate::engine::Engine;
-use crate::keys::{cash_key, holding_key};
+use crate::keys::{cash_key, floor, holding_key};
 use crate::mode::Mode;
 use crate::open_register::{OpenRegister, ask_open, open_register, put_register};
 use crate::opening::Opening;
 use crate::order::Order;
 use crate::placed_order::PlacedOrder;
-use crate::ranges::{amount as amount_of, code_ok, security_ok};
+use crate::ranges::{amount_of, asset_ok, security_ok};
 use crate::security::Security;
 use plans::refusal::Refusal;
 use registers::figures::Figures;
-use registers::key::Key;
 use registers::kind::RegisterKind;
 use registers::ranges::Ratio;
 use registers::row::Row;
 use registers::store::Store;
 
-fn asset_key(code: u32, security: u16) -> Key
-    ensures { result ≡ asset_key code security }
-{
-    if security == 0 {
-        cash_key(code)
-    } else {
-        holding_key(code, security)
-    }
-}
-
-/// What a block on a register has to leave of its limit: the reserve for cash, and nothing elsewhere.
-fn floor(reserve: u16, key: Key) -> u16
-    ensures { result ≡ floor_of reserve key }
-{
-    if key.is(RegisterKind::Cash) {
-        reserve
-    } else {
-        0
-    }
-}
-
 impl<S: Store> Engine<S> {
-    /// Admits a security under a market risk ratio; answers the count of securities. Refuses values
-    /// outside their ranges (5), a security admitted already (3) and a 65th (4).
+    /// Admits a security under a market risk ratio in ten-thousandths; answers the count of securities.
+    /// Refuses values outside their ranges (5), a security admitted already (3) and a 65th (4).
     #[tactic(auto, using(crate::proofs::Signed::counted), unfolding(crate::specs::Calls::admit_of))]
     pub fn admit(&mut self, security: u16, ratio: u16) -> Result<i64, Refusal>
         ensures { Done S.Store.made (admit_of self.old.state security ratio) self.old self.new result }
@@ -102,19 +81,19 @@ impl<S: Store> Engine<S> {
         self.enter(Row { key, figures })
     }
 
-    /// Raises the limit of an account's cash (security 0) or holding; answers the new limit. Refuses
-    /// values outside their ranges (5), a register that is not open (6), figures out of range (25)
-    /// and figures that would leave it (26).
+    /// Raises the limit of an account's cash (security 0) by an amount in kopecks, or of its holding by one
+    /// in pieces; answers the new limit. Refuses values outside their ranges (5), a register that is not
+    /// open (6), figures out of range (25) and figures that would leave it (26).
     #[tactic(auto, using(crate::proofs::Signed::signed), unfolding(crate::specs::Calls::credit_of))]
     pub fn credit(&mut self, code: u32, security: u16, amount: u64) -> Result<i64, Refusal>
         ensures { Done S.Store.made (credit_of self.old.state code security amount) self.old self.new
             result }
     {
-        if !code_ok(code) || security != 0 && !security_ok(security) {
+        if !asset_ok(code, security) {
             return Err(Refusal::BadValue);
         }
         let amount = amount_of(amount)?;
-        let register = open_register(&mut self.store, asset_key(code, security))?;
+        let register = open_register(&mut self.store, Asset::named(security).key(code))?;
         let credited = register.credit(amount)?;
         put_register(&mut self.store, register, credited.figures);
         Ok(credited.figures.limit)
@@ -142,10 +121,11 @@ fn cover<S: Store>(store: &mut S, order: Order) -> Result<OpenRegister, Refusal>
 }
 
 impl<S: Store> Engine<S> {
-    /// Announces an order with full collateral; answers its block. Refuses values outside their ranges
-    /// and partial mode (5), a number not above the last (8), a security that is not admitted (7), a
-    /// full book (9), an account whose cash or holding is not open (6), figures out of range on the
-    /// register of the block (25), and an order that it does not cover (10).
+    /// Announces an order with full collateral; answers its block, in kopecks of a purchase and in pieces
+    /// of a sale. Refuses values outside their ranges and partial mode (5), a number not above the last
+    /// (8), a security that is not admitted (7), a full book (9), an account whose cash or holding is not
+    /// open (6), figures out of range on the register of the block (25), and an order that it does not
+    /// cover (10).
     #[tactic(auto, unfolding(crate::specs::Calls::announce_of))]
     pub fn announce(&mut self, announcement: Announcement) -> Result<i64, Refusal>
         ensures { Done S.Store.made (announce_of self.old.state announcement) self.old self.new result }
@@ -158,16 +138,13 @@ impl<S: Store> Engine<S> {
         self.place(ready, register)
     }
 
-    /// Blocks a ready order's amount on the register that covers it, as it was read and still stands, and
-    /// takes the order into the book; answers the block. Refuses figures out of range on the register (25),
-    /// and an order that it does not cover (10).
+    /// Blocks a ready order's amount on the register that covers it, by its figures as they were read, and
+    /// takes the order into the book; answers the block, in kopecks or in pieces. Refuses figures out of
+    /// range on the register (25), and an order that it does not cover (10).
     #[tactic(auto, unfolding(crate::specs::Calls::placed_of))]
     pub fn place(&mut self, ready: PlacedOrder, register: OpenRegister) -> Result<i64, Refusal>
-        ensures answer { result ≡ answer_of (placed_of self.old.state (placed_as ready) register) }
-        ensures refused { OnErr result (self.new ≡ self.old) }
-        ensures done { FiguresAt self.old.state.rows register.place register.figures →
-            Done S.Store.made (placed_of self.old.state (placed_as ready) register) self.old
-            self.new result }
+        ensures { Done S.Store.made (placed_of self.old.state (placed_as ready) register) self.old self.new
+            result }
     {
         let amount = ready.order.block(ready.order.rest);
         let floor = floor(self.settings.reserve, ready.order.block_key());
@@ -178,8 +155,8 @@ impl<S: Store> Engine<S> {
     }
 
     /// Withdraws a live order, of either mode: the block of its rest is released and the order ends;
-    /// answers the amount. Refuses a number that names no live order (11), a register that is not
-    /// open (6), figures out of range (25) and figures that would leave it (26).
+    /// answers what was released, in kopecks or in pieces. Refuses a number that names no live order (11),
+    /// a register that is not open (6), figures out of range (25) and figures that would leave it (26).
     #[tactic(auto, unfolding(crate::specs::Calls::withdraw_of))]
     pub fn withdraw(&mut self, number: u32) -> Result<i64, Refusal>
         ensures { Done S.Store.made (withdraw_of self.old.state number) self.old self.new result }

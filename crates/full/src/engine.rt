@@ -10,7 +10,8 @@ use registers::store::Store;
 use std::marker::Model;
 
 /// The engine of Level One over a store. Its parts are public for the level above; who embeds it
-/// uses the calls.
+/// uses the calls. A call is refused by the first of its checks, in the order listed, that fails, and then
+/// changes nothing.
 #[derive(Drop)]
 pub struct Engine<S: Store> {
     pub store: S,

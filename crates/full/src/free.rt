@@ -1,6 +1,7 @@
 //! Free places, for which the book is searched.
 
-ghost use Rattle.full.specs.Orders.{slot_of, is_free};
+ghost use Rattle.std.specs.Prelude.{is_none};
+ghost use Rattle.full.specs.Orders.{slot_of};
 
 use crate::order::Order;
 use seek::Keyed;
@@ -10,7 +11,7 @@ use seek::Keyed;
 pub struct Free;
 
 impl Keyed<Free> for Option<Order> {
-    ghost bears = { λ o _. is_free (slot_of o) };
+    ghost bears = { λ o _. is_none (slot_of o) };
 
     fn is_at(&self, _key: Free) -> bool {
         self.is_none()

@@ -1,7 +1,8 @@
 //! The guard over a blocked figure that is raised.
 
-ghost use Rattle.std.specs.Prelude.{◌≡◌, pos, ◌+ℤ◌, ◌-ℤ◌, is_ok, Err, OnErr, int_le};
+ghost use Rattle.std.specs.Prelude.{◌≡◌, pos, ◌+ℤ◌, ◌-ℤ◌, is_ok, Ok, int_le};
 ghost use Rattle.plans.specs.declared.refusal.Refusal.TheVariants.{NotCovered};
+ghost use Rattle.plans.specs.Steps.{demand};
 ghost use Rattle.registers.specs.Registers.{Within};
 ghost use Rattle.full.specs.OpenRegisters.{after_guard};
 
@@ -55,9 +56,9 @@ impl<'a> Raised<'a> {
 // `blocked`, as of the guard: about the one figure that it borrows
 pub(crate) fn raise_covered(blocked: &mut i64, cover: Cover) -> Result<(), Refusal>
     requires blocked { Within blocked.old }
-    ensures answer { is_ok result
-        ≡ int_le (pos cover.floor) (cover.limit -ℤ (blocked.old +ℤ pos cover.amount.units)) }
-    ensures refusal { OnErr result (result ≡ Err NotCovered) }
+    ensures answer { result
+        ≡ demand (int_le (pos cover.floor) (cover.limit -ℤ (blocked.old +ℤ pos cover.amount.units)))
+        NotCovered (Ok tt) }
     ensures after { blocked.new ≡ after_guard (is_ok result) (blocked.old +ℤ pos cover.amount.units) blocked.old }
 {
     let guard = Raised::new(blocked, cover.amount);

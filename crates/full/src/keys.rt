@@ -1,7 +1,8 @@
-//! The keys of registers.
+//! The keys of registers, and what has to be left of their limits.
 
 ghost use Rattle.std.specs.Prelude.{◌≡◌};
 ghost use Rattle.full.specs.Blocks.{cash_key, holding_key, limit_key, participant_key};
+ghost use Rattle.full.specs.OpenRegisters.{floor_of};
 
 use registers::key::Key;
 use registers::kind::RegisterKind;
@@ -47,4 +48,15 @@ pub fn participant_key(account: u32) -> Key
     ensures { result ≡ participant_key account }
 {
     limit_key(account / ACCOUNTS_EACH)
+}
+
+/// What has to be left of the limit of a key's register: the reserve of cash in kopecks, and nothing elsewhere.
+pub fn floor(reserve: u16, key: Key) -> u16
+    ensures { result ≡ floor_of reserve key }
+{
+    if key.is(RegisterKind::Cash) {
+        reserve
+    } else {
+        0
+    }
 }

@@ -2,6 +2,7 @@
 #![tactic(auto)]
 
 pub mod announcement;
+pub mod asset;
 pub mod bargain;
 pub mod book;
 pub mod call;
@@ -19,6 +20,7 @@ pub mod opening;
 pub mod order;
 pub mod order_number;
 pub mod pair;
+pub mod place_from;
 pub mod placed_order;
 pub mod putting;
 pub mod ranges;

@@ -1,12 +1,12 @@
 //! Open registers: reading them, where their figures end, and putting them back.
 
-ghost use Rattle.std.specs.Prelude.{◌≡◌, ◌≢◌, pos, ◌-ℤ◌, IfOk, Ok};
+ghost use Rattle.std.specs.Prelude.{◌≡◌, pos, ◌-ℤ◌, IfOk, Ok};
 ghost use Rattle.plans.specs.declared.refusal.Refusal.TheVariants.{LeavesRange};
 ghost use Rattle.plans.specs.Steps.{demand, ok_as};
 ghost use Rattle.registers.specs.Changes.{OnlyAsked};
 ghost use Rattle.registers.specs.Registers.{in_range};
 ghost use Rattle.registers.specs.Stores.{put_row};
-ghost use Rattle.full.specs.OpenRegisters.{register_at, FiguresAt, block_on, release_on, credit_on, with_blocked, with_figures_of, paid_of, limit_raised, moving};
+ghost use Rattle.full.specs.OpenRegisters.{register_at, FiguresAt, block_on, release_on, credit_on, with_blocked, with_figures_of, paid_of, limit_raised, moving, replaced, replacing};
 
 use crate::cover::Cover;
 use crate::guard::raise_covered;
@@ -46,7 +46,7 @@ pub fn open_register<S: Store>(store: &mut S, key: Key) -> Result<OpenRegister, 
 
 /// Refuses (6) a key of which no register is open, and reads no row; the store is as it stood.
 #[tactic(auto, using(crate::proofs::Places::open_where_found), unfolding(crate::specs::OpenRegisters::register_at))]
-pub(crate) fn ask_open<S: Store>(store: &mut S, key: Key) -> Result<(), Refusal>
+pub fn ask_open<S: Store>(store: &mut S, key: Key) -> Result<(), Refusal>
     ensures answer { result ≡ ok_as (λ _. tt) (register_at (S.Store.rows store.old) key) }
     ensures asked { OnlyAsked S.Store.rows S.Store.capacity S.Store.made store.old store.new }
 {
@@ -54,16 +54,19 @@ pub(crate) fn ask_open<S: Store>(store: &mut S, key: Key) -> Result<(), Refusal>
     Ok(())
 }
 
-/// Puts new figures at the place of a register as it was read, if they differ from those; a place
-/// beyond the last changes nothing.
+/// Puts new figures at the place of a register, where they differ from those that were read; a place beyond
+/// the last changes nothing.
+#[tactic(auto, unfolding(crate::specs::OpenRegisters::replaced, crate::specs::OpenRegisters::replacing))]
 pub fn put_register<S: Store>(store: &mut S, register: OpenRegister, figures: Figures)
-    ensures same { register.figures ≡ figures → S.Store.rows store.new ≡ S.Store.rows store.old }
-    ensures changed { (register.figures ≢ figures) →
-        S.Store.rows store.new ≡ put_row (S.Store.rows store.old) register.place figures }
-    ensures after { FiguresAt (S.Store.rows store.old) register.place register.figures →
-        S.Store.rows store.new ≡ put_row (S.Store.rows store.old) register.place figures }
+    ensures after { S.Store.rows store.new
+        ≡ replaced (S.Store.rows store.old) register.place register.figures figures }
     ensures same_room { S.Store.capacity store.new ≡ S.Store.capacity store.old }
-    ensures changes { FiguresAt (S.Store.rows store.old) register.place register.figures →
+    ensures changes { S.Store.made store.old
+        (replacing (S.Store.rows store.old) register.place register.figures figures) store.new }
+    // the same of a register that stands as it was read, for the callers whose plans speak of no other
+    ensures after_as_read { FiguresAt (S.Store.rows store.old) register.place register.figures →
+        S.Store.rows store.new ≡ put_row (S.Store.rows store.old) register.place figures }
+    ensures changes_as_read { FiguresAt (S.Store.rows store.old) register.place register.figures →
         S.Store.made store.old (moving register.place register.figures figures) store.new }
 {
     if register.figures == figures {

@@ -1,6 +1,8 @@
 //! Orders.
 
-ghost use Rattle.std.specs.Prelude.{◌≡◌, ◌≤◌};
+ghost use Rattle.std.specs.Prelude.{◌≡◌, ◌*◌, ◌/◌, ◌≤◌};
+ghost use Rattle.registers.specs.declared.amounts.TheConstants.{MONEY_DIVISOR};
+ghost use Rattle.registers.specs.declared.ranges.TheConstants.{MOST_PRICE, MOST_QUANTITY};
 ghost use Rattle.full.specs.Orders.{live_of};
 ghost use Rattle.full.specs.Blocks.{key_of, block_units};
 
@@ -11,7 +13,8 @@ use registers::amounts::{Amount, money, risk};
 use registers::key::Key;
 use registers::ranges::{Price, Quantity, Ratio};
 
-/// A live order. The ratio is that of its security when it was announced.
+/// A live order: its price in ten-thousandths of a ruble, its rest in pieces, and the ratio, in
+/// ten-thousandths, of its security when it was announced.
 #[derive(Clone, Copy, PartialEq, Eq, Debug)]
 pub struct Order {
     pub number: u32,
@@ -36,11 +39,12 @@ impl Order {
         }
     }
 
-    /// The block of a quantity of the order, at its price and under its ratio.
+    /// The block of a quantity of the order, at its price and under its ratio: in pieces of a sale with full
+    /// collateral, otherwise in kopecks.
     pub fn block(self, quantity: Quantity) -> Amount
         ensures value { result.units
             ≡ block_units self.mode self.side quantity.value self.price.value self.ratio.value }
-        ensures bound { result.units ≤ 1000000000000 }
+        ensures bound { result.units ≤ MOST_QUANTITY * MOST_PRICE / MONEY_DIVISOR }
     {
         match (self.mode, self.side) {
             (Mode::Full, Side::Buy) => money(quantity, self.price),

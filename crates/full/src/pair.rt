@@ -40,7 +40,7 @@ impl Pair {
     {
         let bargain = Bargain::try_from(deal)?;
         if deal.number <= last_trade {
-            return Err(Refusal::TradeNumber);
+            return Err(Refusal::TradeNumberNotAbove);
         }
         let buy = book.found(deal.buy)?;
         let sell = book.found(deal.sell)?;

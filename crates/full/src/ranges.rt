@@ -3,7 +3,7 @@
 ghost use Rattle.std.specs.Prelude.{◌≡◌, ◌≤◌, true, Ok};
 ghost use Rattle.plans.specs.declared.refusal.Refusal.TheVariants.{BadValue};
 ghost use Rattle.plans.specs.Steps.{demand, ok_as};
-ghost use Rattle.full.specs.Terms.{code_ok, security_ok, number_ok, amount_ok, limit_ok};
+ghost use Rattle.full.specs.Terms.{code_ok, security_ok, asset_ok, number_ok, amount_ok, limit_ok};
 
 use plans::refusal::Refusal;
 use registers::amounts::Amount;
@@ -39,6 +39,14 @@ pub fn security_ok(number: u16) -> bool
     (1..=MOST_SECURITY).contains(&number)
 }
 
+/// Whether an account code is in its range, and so is the security that a call names, or that is 0 for cash.
+#[tactic(auto, unfolding(crate::specs::Terms::asset_ok))]
+pub fn asset_ok(code: u32, security: u16) -> bool
+    ensures { result ≡ asset_ok code security }
+{
+    code_ok(code) && (security == 0 || security_ok(security))
+}
+
 /// Whether the number of an order or of a trade is 1 or more.
 #[tactic(auto, unfolding(crate::specs::Terms::number_ok))]
 pub(crate) fn number_ok(number: u32) -> bool
@@ -49,7 +57,7 @@ pub(crate) fn number_ok(number: u32) -> bool
 
 /// An amount of kopecks or of pieces. Refuses (5) one outside 1 to 10^14.
 #[tactic(auto, using(std::proofs::lemmas::Bool::Decides::nat_tests), unfolding(crate::specs::Terms::amount_ok))]
-pub fn amount(units: u64) -> Result<Amount, Refusal>
+pub fn amount_of(units: u64) -> Result<Amount, Refusal>
     ensures { ok_as (λ a. a.units) result ≡ demand (amount_ok units) BadValue (Ok units) }
 {
     if !(1..=MOST_LIMIT).contains(&units) {

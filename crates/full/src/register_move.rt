@@ -1,6 +1,7 @@
 //! What a call moves of a register.
 
 ghost use Rattle.std.specs.Prelude.{◌≡◌};
+ghost use Rattle.full.specs.OpenRegisters.{no_figures};
 ghost use Rattle.full.specs.Trades.{move_to};
 
 use crate::open_register::OpenRegister;
@@ -27,10 +28,10 @@ impl Move {
     }
 }
 
-/// The move of nothing, at the first place.
+/// The move of nothing: at the first place, from figures of 0 to figures of 0.
 // the kit's `ArrayVec` asks for it, to fill the places that hold nothing yet
 impl Default for Move {
-    ghost is_default = { λ m. (m.place ≡ 0) × (m.before ≡ m.after) };
+    ghost is_default = { λ m. m ≡ move_to (record { place = 0; figures = no_figures }) no_figures };
 
     fn default() -> Move {
         let nothing = Figures {

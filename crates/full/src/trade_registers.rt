@@ -4,7 +4,7 @@ ghost use Rattle.std.specs.Prelude.{◌≡◌, ◌≢◌, IfOk};
 ghost use Rattle.std.specs.List.{list_all};
 ghost use Rattle.registers.specs.Changes.{OnlyAsked};
 ghost use Rattle.registers.specs.Registers.{in_range};
-ghost use Rattle.full.specs.Trades.{trade_registers_of, settle_of, exchange_of, moves_of, Following};
+ghost use Rattle.full.specs.Trades.{trade_registers_of, ended_of, exchange_of, moves_of, Following};
 ghost use Rattle.full.specs.Views.{pair_as};
 
 use crate::keys::{cash_key, holding_key};
@@ -66,10 +66,10 @@ fn trade_registers<S: Store>(
 impl TradeRegisters {
     /// Where the registers end. Refuses figures out of range (25), and figures that would leave it (26),
     /// each over all four.
-    #[tactic(auto, unfolding(crate::specs::Trades::settle_of))]
+    #[tactic(auto, unfolding(crate::specs::Trades::ended_of))]
     #[inline(always)]
-    fn settle(self, quantity: Quantity, value: Amount, block: Amount) -> Result<[Move; 4], Refusal>
-        ensures answer { result ≡ settle_of self quantity.value value.units block.units }
+    fn ended(self, quantity: Quantity, value: Amount, block: Amount) -> Result<[Move; 4], Refusal>
+        ensures answer { result ≡ ended_of self quantity.value value.units block.units }
         ensures moves { IfOk result (λ m. m ≡ moves_of self quantity.value value.units block.units) }
     {
         let pieces = Amount::from(quantity);
@@ -106,5 +106,5 @@ pub(crate) fn exchange<S: Store>(store: &mut S, pair: Pair) -> Result<[Move; 4],
         pair.buy.security,
     )?;
     let value = money(pair.quantity, pair.price);
-    registers.settle(pair.quantity, value, money(pair.quantity, pair.buy.price))
+    registers.ended(pair.quantity, value, money(pair.quantity, pair.buy.price))
 }

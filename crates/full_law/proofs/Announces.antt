@@ -1,19 +1,20 @@
 -- An announcement keeps the promise.
-use Rattle.std.proofs.Common.{◌≡◌, ℕ, suc, ◌+◌, ◌-◌, ◌<◌, Bool, true, false, cond, ◌&&◌, eqb, ltb, leb, List, [], ◌∷◌, ◌++◌, length, get_or, set, Some, None, Ok, Err, Option, Result, unwrap_or, sym, refl, ap, ◌∙◌, subst, arith}
+use Rattle.std.proofs.Common.{◌≡◌, ℕ, suc, ◌+◌, ◌-◌, ◌<◌, Bool, true, false, cond, ◌&&◌, eqb, ltb, leb, List, [], ◌∷◌, ◌++◌, length, get_or, set, Some, None, Ok, Err, Option, Result, unwrap_or, is_none, sym, refl, ap, ◌∙◌, subst, arith}
 use Rattle.std.specs.List.{slice_get}
 use Rattle.std.specs.Option.{option_map}
 use Rattle.std.proofs.lemmas.Bool.{and_parts, ltb-true, leb-true}
+use Rattle.std.proofs.lemmas.List.Sums.{sum_by_push}
 use Rattle.seek.proofs.Cases.{no_case}
 use Rattle.seek.specs.Place.{place_of, on_by}
 use Rattle.registers.specs.declared.key.Key.{Key}
 use Rattle.registers.specs.declared.row.Row.{Row}
 use Rattle.registers.specs.Registers.{same_key}
 use Rattle.plans.specs.declared.refusal.Refusal.{Refusal}
-use Rattle.plans.specs.declared.refusal.Refusal.TheVariants.{BadValue, OrderNumber, NotAdmitted, OrdersFull}
+use Rattle.plans.specs.declared.refusal.Refusal.TheVariants.{BadValue, OrderNumberNotAbove, NotAdmitted, OrdersFull}
 use Rattle.full.specs.declared.announcement.Announcement.{Announcement}
 use Rattle.full.specs.declared.mode.Mode.{Mode}
 use Rattle.full.specs.declared.mode.Mode.TheVariants.{Full, Partial}
-use Rattle.full.specs.Orders.{Live, Admitted, resting, ratio_at, admitted_as, free_place, is_free}
+use Rattle.full.specs.Orders.{Live, Admitted, resting, ratio_at, admitted_as, free_place}
 use Rattle.full.specs.Terms.{between, code_ok, security_ok, number_ok, mode_of, TermsOf, terms_in, terms_of}
 use Rattle.plans.specs.Steps.{and_then, demand, or_refuse}
 use Rattle.full.specs.Checks.{PlacedOf, announced, ready_of}
@@ -22,16 +23,16 @@ use Rattle.full.specs.declared.side.Side.TheVariants.{Buy, Sell}
 use Rattle.full.specs.Blocks.{cash_key, holding_key, block_key, key_of, units_of}
 use Rattle.full.specs.declared.open_register.OpenRegister.{OpenRegister}
 use Rattle.full.specs.State.{State, with_rows, with_orders, with_last_order}
-use Rattle.full.specs.OpenRegisters.{register_at, block_on, rows_with, floor_of, covered}
+use Rattle.full.specs.OpenRegisters.{register_at, FiguresAt, block_on, floor_of, covered, replaced}
 use Rattle.full.specs.Calls.{announce_of, cover_at, cover_of, placed_of}
 use Rattle.full.specs.declared.call.Call.TheVariants.{Announce}
+use Rattle.full.proofs.AsRead.{rows_read}
 use Rattle.full_law.specs.Tally.{Tally, Note, entered, order_for, ratio_noted, live_block, live_blocks}
 use Rattle.full_law.proofs.Promises.{Books, Promise}
 use Rattle.plans.proofs.Keeping.{Keeps, by_demand, by_step}
-use Rattle.full_law.proofs.Keys.{total-push}
 use Rattle.full_law.proofs.Lives.{order_announced}
 use Rattle.full_law.proofs.Moves.{blocked_on, blocked_books}
-use Rattle.full_law.proofs.Slots.{search_at, free_none}
+use Rattle.full_law.proofs.Slots.{search_at, was_none}
 use Rattle.full_law.proofs.Steps.{Open, open_at}
 
 -- the ratio that was noted is the one in force
@@ -87,7 +88,7 @@ live_of_lem a b c d e f g h = cc
 
 module _ (ss : List Admitted) (os : List (Option Live)) (last : ℕ) (a : Announcement) (r : PlacedOf) where
   ready_by : (t : Option TermsOf) (b : Bool) (k i : Option ℕ) → terms_of a ≡ t → ltb last a.number ≡ b → admitted_as ss a.security ≡ k → free_place os ≡ i →
-      and_then (or_refuse t BadValue) (λ t. demand b OrderNumber (and_then (or_refuse k NotAdmitted) (λ k. and_then (or_refuse i OrdersFull) (λ i. Ok (record { place = i; order = announced a t k }))))) ≡ Ok r → Readied ss os last a r
+      and_then (or_refuse t BadValue) (λ t. demand b OrderNumberNotAbove (and_then (or_refuse k NotAdmitted) (λ k. and_then (or_refuse i OrdersFull) (λ i. Ok (record { place = i; order = announced a t k }))))) ≡ Ok r → Readied ss os last a r
   ready_by None b k i e f g h z = absurd (let y : ◌≡◌ {A = ℕ} 0 1 = cc in omega arith)
   ready_by (Some t) false k i e f g h z = absurd (let y : ◌≡◌ {A = ℕ} 0 1 = cc in omega arith)
   ready_by (Some t) true None i e f g h z = absurd (let y : ◌≡◌ {A = ℕ} 0 1 = cc in omega arith)
@@ -95,7 +96,7 @@ module _ (ss : List Admitted) (os : List (Option Live)) (last : ℕ) (a : Announ
   ready_by (Some t) true (Some k) (Some i) e f g h z =
       let s : ◌≡◌ {A = PlacedOf} (record { place = i; order = announced a t k }) r = cc in
       let tr = terms_range a t e in
-      let fp = search_at is_free os i h in
+      let fp = search_at is_none os i h in
       let pi : i ≡ r.place = ap (λ (x : PlacedOf). x.place) s in
       let po : announced a t k ≡ r.order = ap (λ (x : PlacedOf). x.order) s in
       let nu : r.order.number ≡ a.number = sym (ap (λ (x : Live). x.number) po) in
@@ -104,7 +105,7 @@ module _ (ss : List Admitted) (os : List (Option Live)) (last : ℕ) (a : Announ
         above = omega (arith, ltb-true last a.number f);
         rests = omega (arith, tr.quantity, tr.least);
         within = omega (arith, fp.0);
-        free = ap (λ (j : ℕ). get_or os j None) (sym pi) ∙ free_none (get_or os i None) fp.1;
+        free = ap (λ (j : ℕ). get_or os j None) (sym pi) ∙ was_none (get_or os i None) fp.1;
         order = sym po ∙ live_of_lem refl refl (mode_of_lem (mode_of a.mode) tr.mode) refl refl tr.price (sym (ratio_noted_lem a.security ss k g)) tr.quantity;
       }
     where
@@ -141,7 +142,7 @@ full_mode n e = rw e
 grown : (notes : List Note) (o : Live) (j : Key) → live_blocks j (notes ++ record { order = o; traded = 0; back = 0 } ∷ []) ≡ live_blocks j notes + cond (same_key (key_of o) j) (units_of o) 0
 grown notes o j =
     let e : o.rest - (0 + 0) ≡ o.rest = omega arith in
-    total-push (live_block j) notes (record { order = o; traded = 0; back = 0 })
+    sum_by_push (live_block j) notes (record { order = o; traded = 0; back = 0 })
     ∙ ap (λ (n : ℕ). live_blocks j notes + cond (same_key (key_of o) j) (units_of (resting o n)) 0) e
 
 module _ (reserve : ℕ) (t : Tally) (s : State) (h : Promise reserve t s) (a : Announcement) where
@@ -149,19 +150,21 @@ module _ (reserve : ℕ) (t : Tally) (s : State) (h : Promise reserve t s) (a : 
   with_note o = record { ratios = t.ratios; opened = t.opened; notes = t.notes ++ record { order = o; traded = 0; back = 0 } ∷ []; trades_leaving_rest = t.trades_leaving_rest }
 
   placed_promise : (r : PlacedOf) (c b : OpenRegister) → ready_of s.securities s.orders s.last_order a ≡ Ok r → Open s.rows (key_of r.order) c → block_on c (units_of r.order) (floor_of s.settings.reserve (key_of r.order)) ≡ Ok b →
-      Promise reserve (entered t (Announce a)) (with_last_order (with_orders (with_rows s (rows_with s.rows b)) (set s.orders r.place (Some r.order))) r.order.number)
+      Promise reserve (entered t (Announce a)) (with_last_order (with_orders (with_rows s (replaced s.rows c.place c.figures b.figures)) (set s.orders r.place (Some r.order))) r.order.number)
   placed_promise r c b e op eb =
       let rd = ready_readied s.securities s.orders s.last_order a r e in
       let is : r.order ≡ order_for a (ratio_noted a.security t.ratios) = rd.order ∙ ap (λ (ss : List Admitted). order_for a (ratio_noted a.security ss)) h.ratios in
       let p = blocked_on c b (units_of r.order) (floor_of s.settings.reserve (key_of r.order)) eb in
+      let at : FiguresAt s.rows c.place c.figures = ap (option_map (λ (x : Row). x.figures)) op.at ∙ ap Some op.figures in
       let cv : covered c.figures (units_of r.order) (floor_of reserve (key_of r.order)) ≡ true = ap (λ (n : ℕ). covered c.figures (units_of r.order) (floor_of n (key_of r.order))) (sym h.reserved) ∙ p.second in
       let bk = blocked_books reserve t.opened t.notes t.trades_leaving_rest s.rows h.books (key_of r.order) c op (units_of r.order) (with_note r.order).notes (grown t.notes r.order) cv in
-      subst (λ (o : Live). Promise reserve (with_note o) (with_last_order (with_orders (with_rows s (rows_with s.rows b)) (set s.orders r.place (Some r.order))) r.order.number)) is
+      subst (λ (o : Live). Promise reserve (with_note o) (with_last_order (with_orders (with_rows s (replaced s.rows c.place c.figures b.figures)) (set s.orders r.place (Some r.order))) r.order.number)) is
       (record {
         reserved = h.reserved;
         ratios = h.ratios;
         orders = order_announced t.notes s.orders s.last_order h.orders r.order r.place rd.above rd.rests rd.within rd.free;
-        books = subst (λ (x : OpenRegister). Books reserve t.opened (with_note r.order).notes t.trades_leaving_rest (rows_with s.rows x)) p.same bk;
+        books = subst (λ (x : OpenRegister). Books reserve t.opened (with_note r.order).notes t.trades_leaving_rest (replaced s.rows c.place c.figures x.figures)) p.same
+            (subst (Books reserve t.opened (with_note r.order).notes t.trades_leaving_rest) (sym (rows_read s.rows c.place c.figures _ at)) bk);
       })
 
   pub place_keeps : (r : PlacedOf) (c : OpenRegister) → ready_of s.securities s.orders s.last_order a ≡ Ok r → Open s.rows (key_of r.order) c → Keeps (Promise reserve (entered t (Announce a))) (placed_of s r c)

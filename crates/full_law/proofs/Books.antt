@@ -38,18 +38,18 @@ key_after rows i j f r q e g =
     (λ ne. (q, ((after_put rows i j f r q e g).1 ne, refl)))
     (cases_eq j i)
 
-module _ (reserve : ℕ) (opened : List Opened) (notes notes' : List Note) (times times' : List Key) (rows : List Row) (h : Books reserve opened notes times rows)
+module _ (reserve : ℕ) (opened : List Opened) (notes notes' : List Note) (leaving leaving' : List Key) (rows : List Row) (h : Books reserve opened notes leaving rows)
     (i : ℕ) (r : Row) (at : slice_get rows i ≡ Some r) (f : Figures)
-    (elsewhere : (k : Key) → same_key r.key k ≡ false → (live_blocks k notes' ≡ live_blocks k notes) × (trades_leaving_rest_on k times' ≡ trades_leaving_rest_on k times))
-    (here : (o : Opened) → o.key ≡ r.key → FairIn reserve notes times r.figures o → FairIn reserve notes' times' f o) where
-  keeps_fair : (j : ℕ) (q : Row) (o : Opened) → slice_get (put_row rows i f) j ≡ Some q → slice_get opened j ≡ Some o → FairIn reserve notes' times' q.figures o
+    (elsewhere : (k : Key) → same_key r.key k ≡ false → (live_blocks k notes' ≡ live_blocks k notes) × (trades_leaving_rest_on k leaving' ≡ trades_leaving_rest_on k leaving))
+    (here : (o : Opened) → o.key ≡ r.key → FairIn reserve notes leaving r.figures o → FairIn reserve notes' leaving' f o) where
+  keeps_fair : (j : ℕ) (q : Row) (o : Opened) → slice_get (put_row rows i f) j ≡ Some q → slice_get opened j ≡ Some o → FairIn reserve notes' leaving' q.figures o
   keeps_fair j q o g ho =
       ⊎_elim
       (λ s.
       let ri : slice_get rows j ≡ Some r = ap (slice_get rows) s ∙ at in
       let k : o.key ≡ r.key = opened_key rows opened j r o h.keys ri ho in
-      let n : FairIn reserve notes' times' f o = here o k (h.fair j r o ri ho) in
-      subst (λ (x : Row). FairIn reserve notes' times' x.figures o) (sym ((after_put rows i j f r q at g).0 s)) n)
+      let n : FairIn reserve notes' leaving' f o = here o k (h.fair j r o ri ho) in
+      subst (λ (x : Row). FairIn reserve notes' leaving' x.figures o) (sym ((after_put rows i j f r q at g).0 s)) n)
       (λ ne.
       let rj : slice_get rows j ≡ Some q = (after_put rows i j f r q at g).1 ne in
       let k : o.key ≡ q.key = opened_key rows opened j q o h.keys rj ho in
@@ -58,7 +58,7 @@ module _ (reserve : ℕ) (opened : List Opened) (notes notes' : List Note) (time
       rw (same.0, same.1) (h.fair j q o rj ho))
       (cases_eq j i)
 
-  pub books_change : Books reserve opened notes' times' (put_row rows i f)
+  pub books_change : Books reserve opened notes' leaving' (put_row rows i f)
   books_change =
       record {
         keys = put_keys rows i f ∙ h.keys;

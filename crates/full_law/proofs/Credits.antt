@@ -1,11 +1,12 @@
 -- Admissions and credits keep the promise.
-use Rattle.std.proofs.Common.{ℕ, not, ◌&&◌, ◌||◌, eqb, ltb, List, [], ◌∷◌, ◌++◌, length, pos, ◌+ℤ◌, is_some, refl, ap, subst}
+use Rattle.std.proofs.Common.{ℕ, not, ◌&&◌, ltb, List, [], ◌∷◌, ◌++◌, length, pos, ◌+ℤ◌, is_some, refl, ap, subst}
 use Rattle.full.specs.Orders.{Admitted, admitted_as}
-use Rattle.full.specs.Terms.{between, code_ok, security_ok, amount_ok}
+use Rattle.full.specs.Terms.{between, security_ok, asset_ok, amount_ok}
 use Rattle.full.specs.declared.open_register.OpenRegister.{OpenRegister}
 use Rattle.full.specs.State.{State}
 use Rattle.full.specs.OpenRegisters.{register_at, credit_on, rows_with, with_limit}
-use Rattle.full.specs.Calls.{admit_of, credit_of, asset_key}
+use Rattle.full.specs.Assets.{asset_named, asset_key}
+use Rattle.full.specs.Calls.{admit_of, credit_of}
 use Rattle.full.specs.declared.call.Call.TheVariants.{Admit, Credit}
 use Rattle.full_law.specs.Tally.{Tally, entered}
 use Rattle.full_law.proofs.Promises.{Books, Promise}
@@ -25,8 +26,8 @@ module _ (reserve : ℕ) (t : Tally) (s : State) (h : Promise reserve t s) where
   pub credit_keeps : (code security amount : ℕ) → Keeps (Promise reserve (entered t (Credit code security amount))) (credit_of s code security amount)
   unfolding credit_of
   credit_keeps code security amount =
-      by_demand (Promise reserve t) (code_ok code && ((eqb security 0 || security_ok security) && amount_ok amount)) _ _ λ _.
-      by_step (Promise reserve t) (register_at s.rows (asset_key code security)) _ λ r e.
+      by_demand (Promise reserve t) (asset_ok code security && amount_ok amount) _ _ λ _.
+      by_step (Promise reserve t) (register_at s.rows (asset_key (asset_named security) code)) _ λ r e.
       by_step (Promise reserve t) (credit_on r amount) _ λ c f.
       record {
         reserved = h.reserved;
@@ -34,5 +35,5 @@ module _ (reserve : ℕ) (t : Tally) (s : State) (h : Promise reserve t s) where
         orders = h.orders;
         books =
             subst (λ (x : OpenRegister). Books reserve t.opened t.notes t.trades_leaving_rest (rows_with s.rows x)) (credited r c amount f)
-            (raised_books reserve t.opened t.notes t.trades_leaving_rest s.rows h.books (asset_key code security) r (open_at s.rows (asset_key code security) r e) amount (with_limit r.figures (r.figures.limit +ℤ pos amount)) refl refl);
+            (raised_books reserve t.opened t.notes t.trades_leaving_rest s.rows h.books (asset_key (asset_named security) code) r (open_at s.rows (asset_key (asset_named security) code) r e) amount (with_limit r.figures (r.figures.limit +ℤ pos amount)) refl refl);
       }

@@ -17,7 +17,7 @@ use Rattle.full.specs.declared.open_register.OpenRegister.{OpenRegister}
 use Rattle.full.specs.declared.trade_registers.TradeRegisters.{TradeRegisters}
 use Rattle.full.specs.declared.register_move.Move.{Move}
 use Rattle.full.specs.State.{State, with_rows, with_orders, with_last_trade}
-use Rattle.full.specs.Trades.{trade_registers_of, settle_of, moves_of, moved_all, lower_at, exchange_of, trade_of}
+use Rattle.full.specs.Trades.{trade_registers_of, ended_of, moves_of, moved_all, lower_at, exchange_of, trade_of}
 use Rattle.full.proofs.Swaps.{Apart}
 use Rattle.full.specs.OpenRegisters.{paid_of, limit_raised}
 use Rattle.full.proofs.Places.{Stands, Parts, four_parts, four_apart}
@@ -28,7 +28,7 @@ use Rattle.full_law.specs.Law.{lives}
 use Rattle.full_law.proofs.Promises.{Books, Orders, Promise, Whole, base_of, slack_of}
 use Rattle.plans.proofs.Keeping.{Keeps, by_demand, by_step, by_steps}
 use Rattle.full_law.proofs.Fairness.{covers}
-use Rattle.full_law.proofs.Keys.{all_at, at_key, put_apart}
+use Rattle.full_law.proofs.Keys.{all_at, at_key, replaced_apart}
 use Rattle.full_law.proofs.Lives.{order_changed}
 use Rattle.full_law.proofs.Moves.{Passed, two_checks, raised_books, freed_books}
 use Rattle.full_law.proofs.Rows.{same_key_lem}
@@ -40,9 +40,9 @@ use Rattle.full_law.proofs.Withdraws.{blocks_apart}
 open_stands : (rows : List Row) (k : Key) (h : OpenRegister) → Stands rows k h → Open rows k h
 open_stands rows k h s = record { row = s.row; at = s.at; key = same_key_lem s.row.key k s.bears; figures = s.figures }
 
-settled : (r : TradeRegisters) (q v b : ℕ) (ms : List Move) → settle_of r q v b ≡ Ok ms → moves_of r q v b ≡ ms
-unfolding settle_of
-settled r q v b ms e =
+ended_moves : (r : TradeRegisters) (q v b : ℕ) (ms : List Move) → ended_of r q v b ≡ Ok ms → moves_of r q v b ≡ ms
+unfolding ended_of
+ended_moves r q v b ms e =
     let p : Passed (list_all in_range (r.buyer_cash.figures ∷ r.seller_cash.figures ∷ r.buyer_holding.figures ∷ r.seller_holding.figures ∷ [])) (list_all (λ (m : Move). in_range m.after) (moves_of r q v b)) (moves_of r q v b) ms = two_checks _ _ _ _ _ _ e in
     p.same
 
@@ -133,17 +133,17 @@ module _ (reserve : ℕ) (t : Tally) (s : State) (h : Promise reserve t s) (d : 
   abbrev notes2 : List Note
   notes2 = replace_by number y' notes1
 
-  abbrev times1 : List Key
-  times1 = trade_leaving_rest x' ++ t.trades_leaving_rest
+  abbrev leaving1 : List Key
+  leaving1 = trade_leaving_rest x' ++ t.trades_leaving_rest
 
-  abbrev times2 : List Key
-  times2 = trade_leaving_rest y' ++ times1
+  abbrev leaving2 : List Key
+  leaving2 = trade_leaving_rest y' ++ leaving1
 
   abbrev os1 : List (Option Live)
   os1 = set s.orders p.buy_place (lives (Some x'))
 
   sell_noted : find_by number d.sell notes1 ≡ Some sy.note
-  sell_noted = put_apart number d.buy x' t.notes d.sell bx.numbered (λ e. apart_numbers (sym e)) ∙ sy.at_n
+  sell_noted = replaced_apart number d.buy x' t.notes d.sell bx.numbered (λ e. apart_numbers (sym e)) ∙ sy.at_n
 
   orders1 : Orders notes1 os1 s.last_order
   orders1 = order_changed t.notes s.orders s.last_order h.orders d.buy p.buy_place bx.note x' bx.at_n bx.numbered (traded_whole bx.note p.quantity bx.whole bx.rest) bx.within bx.bears
@@ -165,7 +165,7 @@ module _ (reserve : ℕ) (t : Tally) (s : State) (h : Promise reserve t s) (d : 
   abbrev fed : ℕ → Option Note → Tally
   fed q o = traded_on (traded_on t q o) q (find_by number d.sell (traded_on t q o).notes)
 
-  same_tally : entered t (Trade d) ≡ record { ratios = t.ratios; opened = t.opened; notes = notes2; trades_leaving_rest = times2 }
+  same_tally : entered t (Trade d) ≡ record { ratios = t.ratios; opened = t.opened; notes = notes2; trades_leaving_rest = leaving2 }
   same_tally =
       ap (λ (q : ℕ). fed q (find_by number d.buy t.notes)) (sym mp.quantity)
       ∙ ap (fed p.quantity) bx.at_n
@@ -232,29 +232,29 @@ module _ (reserve : ℕ) (t : Tally) (s : State) (h : Promise reserve t s) (d : 
       abbrev rows_c : List Row
       rows_c = put_row rows_b r.buyer_holding.place (limit_raised r.buyer_holding.figures p.quantity)
 
-      books_a : Books reserve t.opened notes1 times1 rows_a
+      books_a : Books reserve t.opened notes1 leaving1 rows_a
       unfolding paid_of
       books_a =
           let o = traded_blocks t.notes d.buy bx.note bx.at_n p.quantity bx.whole bx.rest in
           freed_books reserve t.opened t.notes t.trades_leaving_rest s.rows h.books (register_of bx.note) r.buyer_cash
           (subst (λ (k : Key). Open s.rows k r.buyer_cash) buy_key (open_stands s.rows (cash_key p.buy.account) r.buyer_cash parts.buyer_cash))
-          buy_freed value (slack_of (register_of bx.note) (left_over (rest_of bx.note - p.quantity))) notes1 times1
+          buy_freed value (slack_of (register_of bx.note) (left_over (rest_of bx.note - p.quantity))) notes1 leaving1
           (λ opening. covers (base_of (register_of bx.note) opening reserve) value buy_freed (omega (arith, money_less p.quantity p.price p.buy.price mp.price, buy_freed_lem)))
           (λ j off. (blocks_apart t.notes d.buy bx.note x' bx.at_n bx.numbered refl j off, leaving_apart bx.note p.quantity bx.whole bx.rest t.trades_leaving_rest j off))
           (ap (slack_of (register_of bx.note)) (leaving_here bx.note p.quantity bx.whole bx.rest t.trades_leaving_rest) ∙ slack_grows (register_of bx.note) _ _)
           o.most o.least
           (paid_of r.buyer_cash.figures value block) refl (ap (λ (u : ℕ). r.buyer_cash.figures.blocked -ℤ pos u) buy_freed_lem)
 
-      books_b : Books reserve t.opened notes1 times1 rows_b
+      books_b : Books reserve t.opened notes1 leaving1 rows_b
       unfolding limit_raised
       books_b =
-          raised_books reserve t.opened notes1 times1 rows_a books_a (cash_key p.sell.account) r.seller_cash
+          raised_books reserve t.opened notes1 leaving1 rows_a books_a (cash_key p.sell.account) r.seller_cash
           (open_kept s.rows (cash_key p.sell.account) r.seller_cash r.buyer_cash.place _ (lie_apart 0 1 0 (omega arith) (omega arith)) (open_stands s.rows (cash_key p.sell.account) r.seller_cash parts.seller_cash)) value (limit_raised r.seller_cash.figures value) refl refl
 
-      books_c : Books reserve t.opened notes1 times1 rows_c
+      books_c : Books reserve t.opened notes1 leaving1 rows_c
       unfolding limit_raised
       books_c =
-          raised_books reserve t.opened notes1 times1 rows_b books_b (holding_key p.buy.account p.buy.security) r.buyer_holding
+          raised_books reserve t.opened notes1 leaving1 rows_b books_b (holding_key p.buy.account p.buy.security) r.buyer_holding
           (open_kept rows_a (holding_key p.buy.account p.buy.security) r.buyer_holding r.seller_cash.place _ (lie_apart 1 2 0 (omega arith) (omega arith))
           (open_kept s.rows (holding_key p.buy.account p.buy.security) r.buyer_holding r.buyer_cash.place _ (lie_apart 0 2 0 (omega arith) (omega arith)) (open_stands s.rows (holding_key p.buy.account p.buy.security) r.buyer_holding parts.buyer_holding))) p.quantity (limit_raised r.buyer_holding.figures p.quantity) refl refl
 
@@ -265,26 +265,26 @@ module _ (reserve : ℕ) (t : Tally) (s : State) (h : Promise reserve t s) (d : 
           (open_kept rows_a (holding_key p.sell.account p.buy.security) r.seller_holding r.seller_cash.place _ (lie_apart 1 3 0 (omega arith) (omega arith))
           (open_kept s.rows (holding_key p.sell.account p.buy.security) r.seller_holding r.buyer_cash.place _ (lie_apart 0 3 0 (omega arith) (omega arith)) (open_stands s.rows (holding_key p.sell.account p.buy.security) r.seller_holding parts.seller_holding))))
 
-      books_d : Books reserve t.opened notes2 times2 (moved_all s.rows (moves_of r p.quantity value block))
+      books_d : Books reserve t.opened notes2 leaving2 (moved_all s.rows (moves_of r p.quantity value block))
       unfolding paid_of
       books_d =
           let o = traded_blocks notes1 d.sell sy.note sell_noted p.quantity sy.whole sy.rest in
-          freed_books reserve t.opened notes1 times1 rows_c books_c (register_of sy.note) r.seller_holding giver_open
-          sell_freed p.quantity (slack_of (register_of sy.note) (left_over (rest_of sy.note - p.quantity))) notes2 times2
+          freed_books reserve t.opened notes1 leaving1 rows_c books_c (register_of sy.note) r.seller_holding giver_open
+          sell_freed p.quantity (slack_of (register_of sy.note) (left_over (rest_of sy.note - p.quantity))) notes2 leaving2
           (λ opening. covers (base_of (register_of sy.note) opening reserve) p.quantity sell_freed (omega (arith, sell_freed_lem)))
-          (λ j off. (blocks_apart notes1 d.sell sy.note y' sell_noted sy.numbered refl j off, leaving_apart sy.note p.quantity sy.whole sy.rest times1 j off))
-          (ap (slack_of (register_of sy.note)) (leaving_here sy.note p.quantity sy.whole sy.rest times1) ∙ slack_grows (register_of sy.note) _ _)
+          (λ j off. (blocks_apart notes1 d.sell sy.note y' sell_noted sy.numbered refl j off, leaving_apart sy.note p.quantity sy.whole sy.rest leaving1 j off))
+          (ap (slack_of (register_of sy.note)) (leaving_here sy.note p.quantity sy.whole sy.rest leaving1) ∙ slack_grows (register_of sy.note) _ _)
           o.most o.least
           (paid_of r.seller_holding.figures p.quantity p.quantity) refl (ap (λ (u : ℕ). r.seller_holding.figures.blocked -ℤ pos u) sell_freed_lem)
 
-      pub dealt : (ms : List Move) → settle_of r p.quantity value block ≡ Ok ms → Promise reserve (entered t (Trade d)) (with_last_trade (with_orders (with_rows s (moved_all s.rows ms)) (lower_at (lower_at s.orders p.buy_place p.quantity) p.sell_place p.quantity)) d.number)
+      pub dealt : (ms : List Move) → ended_of r p.quantity value block ≡ Ok ms → Promise reserve (entered t (Trade d)) (with_last_trade (with_orders (with_rows s (moved_all s.rows ms)) (lower_at (lower_at s.orders p.buy_place p.quantity) p.sell_place p.quantity)) d.number)
       dealt ms em =
           subst (λ (u : Tally). Promise reserve u (with_last_trade (with_orders (with_rows s (moved_all s.rows ms)) (lower_at (lower_at s.orders p.buy_place p.quantity) p.sell_place p.quantity)) d.number)) (sym same_tally)
           (record {
             reserved = h.reserved;
             ratios = h.ratios;
             orders = subst (λ (os : List (Option Live)). Orders notes2 os s.last_order) (sym same_orders) orders2;
-            books = subst (λ (ns : List Move). Books reserve t.opened notes2 times2 (moved_all s.rows ns)) (settled r p.quantity value block ms em) books_d;
+            books = subst (λ (ns : List Move). Books reserve t.opened notes2 leaving2 (moved_all s.rows ns)) (ended_moves r p.quantity value block ms em) books_d;
           })
 
 module _ (reserve : ℕ) (t : Tally) (s : State) (h : Promise reserve t s) (d : Deal) where

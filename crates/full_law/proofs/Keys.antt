@@ -1,19 +1,20 @@
 -- Look-ups and sums after a change of one element.
-use Rattle.std.proofs.Common.{◌≡◌, ℕ, ◌+◌, Bool, true, false, eqb, List, [], ◌∷◌, ◌++◌, Some, None, refl, subst, arith}
+use Rattle.std.proofs.Common.{◌≡◌, ℕ, ◌+◌, Bool, true, false, eqb, List, [], ◌∷◌, ◌++◌, sum_by, Some, None, refl, subst, arith}
 use Rattle.std.specs.List.{AllByRecursion}
 use Rattle.std.proofs.lemmas.Bool.{cond_both}
 use Rattle.std.proofs.lemmas.Bool.Decides.{nat_tests}
+use Rattle.std.proofs.lemmas.List.Sums.{sum_by-cons}
 use Rattle.seek.proofs.Cases.{no_case}
-use Rattle.full_law.specs.Lists.{find_by, replace_by, total}
+use Rattle.full_law.specs.Lists.{find_by, replace_by}
 
 module _ {X : Type 0} (key : X → ℕ) where
-  pub put_here : (n : ℕ) (y : X) (xs : List X) (x : X) → key y ≡ n → find_by key n xs ≡ Some x → find_by key n (replace_by key y xs) ≡ Some y
-  put_here n y [] x ky e = grind arith
-  put_here n y (z ∷ zs) x ky e = let h = put_here n y zs x ky in grind (arith, nat_tests, h)
+  pub replaced_here : (n : ℕ) (y : X) (xs : List X) (x : X) → key y ≡ n → find_by key n xs ≡ Some x → find_by key n (replace_by key y xs) ≡ Some y
+  replaced_here n y [] x ky e = grind arith
+  replaced_here n y (z ∷ zs) x ky e = let h = replaced_here n y zs x ky in grind (arith, nat_tests, h)
 
-  pub put_apart : (n : ℕ) (y : X) (xs : List X) (k : ℕ) → key y ≡ n → (k ≡ n → ⊥) → find_by key k (replace_by key y xs) ≡ find_by key k xs
-  put_apart n y [] k ky ne = refl
-  put_apart n y (z ∷ zs) k ky ne = let h = put_apart n y zs k ky ne in grind (arith, nat_tests, h)
+  pub replaced_apart : (n : ℕ) (y : X) (xs : List X) (k : ℕ) → key y ≡ n → (k ≡ n → ⊥) → find_by key k (replace_by key y xs) ≡ find_by key k xs
+  replaced_apart n y [] k ky ne = refl
+  replaced_apart n y (z ∷ zs) k ky ne = let h = replaced_apart n y zs k ky ne in grind (arith, nat_tests, h)
 
   pub push_here : (n : ℕ) (y : X) (xs : List X) → key y ≡ n → find_by key n xs ≡ None → find_by key n (xs ++ y ∷ []) ≡ Some y
   push_here n y [] ky e = grind (arith, nat_tests)
@@ -23,13 +24,13 @@ module _ {X : Type 0} (key : X → ℕ) where
   push_apart n y [] k ky ne = grind (arith, nat_tests)
   push_apart n y (z ∷ zs) k ky ne = let h = push_apart n y zs k ky ne in grind (arith, nat_tests, h)
 
-  pub total_put : (g : X → ℕ) (n : ℕ) (y : X) (xs : List X) (x : X) → key y ≡ n → find_by key n xs ≡ Some x → total g (replace_by key y xs) + g x ≡ total g xs + g y
-  total_put g n y [] x ky e = grind arith
-  total_put g n y (z ∷ zs) x ky e = let h = total_put g n y zs x ky in grind (arith, nat_tests, h)
+  pub replaced_sum : (g : X → ℕ) (n : ℕ) (y : X) (xs : List X) (x : X) → key y ≡ n → find_by key n xs ≡ Some x → sum_by g (replace_by key y xs) + g x ≡ sum_by g xs + g y
+  replaced_sum g n y [] x ky e = no_case (cc)
+  replaced_sum g n y (z ∷ zs) x ky e = let h = replaced_sum g n y zs x ky in grind (arith, nat_tests, h, sum_by-cons g z zs, sum_by-cons g y zs, sum_by-cons g z (replace_by key y zs))
 
-  pub all_put : (P : X → Type 0) (y : X) (xs : List X) → P y → AllByRecursion P xs → AllByRecursion P (replace_by key y xs)
-  all_put P y [] p h = tt
-  all_put P y (z ∷ zs) p h = let i = all_put P y zs p h.1 in cond_both (eqb (key y) (key z)) (y ∷ zs) (z ∷ replace_by key y zs) (AllByRecursion P) (λ _. (p, h.1)) (λ _. (h.0, i))
+  pub replaced_all : (P : X → Type 0) (y : X) (xs : List X) → P y → AllByRecursion P xs → AllByRecursion P (replace_by key y xs)
+  replaced_all P y [] p h = tt
+  replaced_all P y (z ∷ zs) p h = let i = replaced_all P y zs p h.1 in cond_both (eqb (key y) (key z)) (y ∷ zs) (z ∷ replace_by key y zs) (AllByRecursion P) (λ _. (p, h.1)) (λ _. (h.0, i))
 
   pub all_at : (P : X → Type 0) (n : ℕ) (xs : List X) (x : X) → AllByRecursion P xs → find_by key n xs ≡ Some x → P x
   all_at P n [] x h e = no_case (cc)
@@ -46,12 +47,3 @@ module _ {X : Type 0} (key : X → ℕ) where
   pub at_key : (n : ℕ) (xs : List X) (x : X) → find_by key n xs ≡ Some x → key x ≡ n
   at_key n [] x e = no_case (cc)
   at_key n (z ∷ zs) x e = let h = at_key n zs x in grind (arith, nat_tests, h)
-
--- a sum over a list with one more, and over two lists
-pub total-push : {X : Type 0} (g : X → ℕ) (xs : List X) (y : X) → total g (xs ++ y ∷ []) ≡ total g xs + g y
-total-push g [] y = omega arith
-total-push g (x ∷ xs) y = omega (arith, total-push g xs y)
-
-pub total-append : {X : Type 0} (g : X → ℕ) (xs ys : List X) → total g (xs ++ ys) ≡ total g xs + total g ys
-total-append g [] ys = omega arith
-total-append g (x ∷ xs) ys = omega (arith, total-append g xs ys)

@@ -1,5 +1,5 @@
 -- Every call keeps the promise, and the promise gives the law.
-use Rattle.std.proofs.Common.{◌≡◌, ℕ, zero, suc, ◌+◌, ◌≤◌, Bool, true, false, cond, eqb, ltb, List, [], ◌∷◌, ◌++◌, map, replicate, ℤ, pos, ◌+ℤ◌, ◌-ℤ◌, ◌≤ℤ◌, Some, None, Option, Result, sym, refl, ap, ◌∙◌, subst, arith}
+use Rattle.std.proofs.Common.{◌≡◌, ℕ, ◌+◌, ◌≤◌, Bool, true, false, cond, eqb, ltb, List, [], ◌∷◌, ◌++◌, map, ℤ, pos, ◌+ℤ◌, ◌-ℤ◌, ◌≤ℤ◌, Some, None, Option, Result, sym, refl, ap, ◌∙◌, subst, arith}
 use Rattle.std.specs.List.{slice_get, AllByRecursion}
 use Rattle.std.proofs.lemmas.List.Elements.{All-from_recursion}
 use Rattle.full_law.specs.Lists.{find_by}
@@ -9,14 +9,14 @@ use Rattle.std.proofs.lemmas.Bool.{ltb-false}
 use Rattle.seek.proofs.Cases.{no_case}
 use Rattle.registers.specs.declared.row.Row.{Row}
 use Rattle.plans.specs.declared.refusal.Refusal.{Refusal}
-use Rattle.full.specs.Orders.{Live}
+use Rattle.full.specs.Orders.{Live, has_number}
 use Rattle.full.specs.declared.settings.Settings.{Settings}
 use Rattle.full.specs.State.{State, begin}
 use Rattle.full.specs.declared.call.Call.{Call}
 use Rattle.full.specs.declared.call.Call.TheVariants.{Admit, Open, Credit, Announce, Withdraw, Trade}
 use Rattle.full.specs.Plans.{call_of}
 use Rattle.full_law.specs.Tally.{Tally, Opened, Note, empty, entered, number, rest_of, standing, live_blocks, trades_leaving_rest_on}
-use Rattle.full_law.specs.Law.{Law, lives, live_rest, slot_for, places_of}
+use Rattle.full_law.specs.Law.{Law, lives, live_rest, slot_for}
 use Rattle.full_law.proofs.Promises.{Above, FairIn, Promise, Whole, base_of, slack_of}
 use Rattle.full_law.proofs.Announces.{announce_keeps}
 use Rattle.full_law.proofs.Credits.{admit_keeps, credit_keeps}
@@ -25,6 +25,7 @@ use Rattle.plans.proofs.Keeping.{Keeps}
 use Rattle.plans.specs.Runs.{outcomes_of, state_after}
 use Rattle.plans.proofs.Walks.{Finished, finished}
 use Rattle.full_law.proofs.Rising.{each_found, all_differ}
+use Rattle.full_law.proofs.Slots.{none_held, none_counted}
 use Rattle.full_law.proofs.Opens.{open_keeps}
 use Rattle.full_law.proofs.Withdraws.{withdraw_keeps}
 
@@ -38,21 +39,13 @@ call_keeps reserve t s h (Withdraw n) = withdraw_keeps reserve t s h n
 call_keeps reserve t s h (Trade d) = trade_keeps reserve t s h d
 
 -- a new engine over an empty store
-none_live : (n k : ℕ) → slot_for n (replicate k None) ≡ None
-none_live n zero = refl
-none_live n (suc k) = none_live n k
-
-none_places : (n k : ℕ) → places_of n (replicate k None) ≡ 0
-none_places n zero = refl
-none_places n (suc k) = omega (arith, none_places n k)
-
 pub begin_keeps : (rows : List Row) (room : ℕ) (settings : Settings) → rows ≡ [] → Promise settings.reserve empty (begin rows room settings)
 begin_keeps rows room settings e =
     subst (λ (rs : List Row). Promise settings.reserve empty (begin rs room settings)) (sym e)
     (record {
       reserved = refl;
       ratios = refl;
-      orders = record { whole = tt; fresh = tt; rising = tt; live = λ n. none_live n 256; once = λ n. omega (arith, none_places n 256) };
+      orders = record { whole = tt; fresh = tt; rising = tt; live = λ n. none_held (has_number n) refl 256; once = λ n. omega (arith, none_counted (has_number n) refl 256) };
       books = record { keys = refl; apart = λ i j r q f g s. no_row i r f; fair = λ i r o f g. no_row i r f; blank = λ k none. (refl, refl) };
     })
   where

@@ -1,17 +1,16 @@
 -- The orders beside the notes: one order's rest changes, or a new one is announced.
-use Rattle.std.proofs.Common.{◌≡◌, ℕ, ◌+◌, ◌<◌, ◌≤◌, Bool, true, false, cond, eqb, ltb, List, [], ◌∷◌, ◌++◌, length, get_or, set, Some, None, Option, sym, refl, ap, ◌∙◌, subst, ⊎_elim, arith}
+use Rattle.std.proofs.Common.{◌≡◌, ℕ, ◌<◌, ◌≤◌, Bool, true, false, cond, eqb, ltb, List, [], ◌∷◌, ◌++◌, length, get_or, set, Some, None, Option, sym, refl, ap, ◌∙◌, subst, ⊎_elim, arith}
 use Rattle.std.specs.List.{AllByRecursion}
 use Rattle.std.proofs.lemmas.Bool.{cases_eq, eqb-true, eq-eqb, ne_eqb, lt-ltb}
 use Rattle.std.proofs.ByRecursion.{All-push, All-weaker}
-use Rattle.seek.proofs.Cases.{no_case}
 use Rattle.full.specs.Orders.{Live, has_number, resting}
 use Rattle.full_law.specs.Lists.{find_by, replace_by}
 use Rattle.full_law.specs.Tally.{Note, number, rest_of, standing}
 use Rattle.full_law.specs.Law.{slot_for, places_of, lives}
 use Rattle.full_law.proofs.Promises.{Whole, Orders, Rising}
 use Rattle.full_law.proofs.Rising.{numbers_replaced, rising_more}
-use Rattle.full_law.proofs.Keys.{put_here, put_apart, push_here, push_apart, all_put, all_at, at_key}
-use Rattle.full_law.proofs.Slots.{none_places, places_set, slot_other, slot_set, slot_new}
+use Rattle.full_law.proofs.Keys.{replaced_here, replaced_apart, push_here, push_apart, replaced_all, all_at, at_key}
+use Rattle.full_law.proofs.Slots.{one, one_most, count_set, held_here, held_other, uncounted}
 
 -- a place that holds one number holds no other
 other_number : (m n : ℕ) (x : Option Live) → (m ≡ n → ⊥) → has_number n x ≡ true → has_number m x ≡ false
@@ -27,21 +26,6 @@ not_other : (m n : ℕ) (y : Note) (b : Bool) → number y ≡ n → (m ≡ n �
 not_other m n y true e ne = ne_eqb (number y) m (λ s. ne (sym s ∙ e))
 not_other m n y false e ne = refl
 
-few : (b c d : Bool) (p q : ℕ) → q + cond b 1 0 ≡ p + cond c 1 0 → b ≡ true → p ≤ 1 → q ≤ 1
-few true true d p q e f h = omega arith
-few true false d p q e f h = omega arith
-few false c d p q e f h = no_case (cc)
-
-same_few : (b c : Bool) (p q : ℕ) → q + cond b 1 0 ≡ p + cond c 1 0 → b ≡ false → c ≡ false → p ≤ 1 → q ≤ 1
-same_few true c p q e f g h = no_case (cc)
-same_few false true p q e f g h = no_case (cc)
-same_few false false p q e f g h = omega arith
-
-new_few : (b c : Bool) (p q : ℕ) → q + cond b 1 0 ≡ p + cond c 1 0 → b ≡ false → p ≡ 0 → q ≤ 1
-new_few true c p q e f g = no_case (cc)
-new_few false true p q e f g = omega arith
-new_few false false p q e f g = omega arith
-
 each_number : (P : ℕ → Type 0) (n : ℕ) → P n → ((m : ℕ) → (m ≡ n → ⊥) → P m) → (m : ℕ) → P m
 each_number P n here there m = ⊎_elim (λ e. subst P (sym e) here) (there m) (cases_eq m n)
 
@@ -50,15 +34,15 @@ module _ (notes : List Note) (os : List (Option Live)) (last : ℕ) (h : Orders 
   pub order_changed : (n i : ℕ) (x y : Note) → find_by number n notes ≡ Some x → number y ≡ n → Whole y → i < length os → has_number n (get_or os i None) ≡ true → Orders (replace_by number y notes) (set os i (lives (Some y))) last
   order_changed n i x y ex ny wy li hn =
       record {
-        whole = all_put number Whole y notes wy h.whole;
-        fresh = all_put number (λ (z : Note). number z ≤ last) y notes (subst (λ (k : ℕ). k ≤ last) (at_number ∙ sym ny) (all_at number (λ (z : Note). number z ≤ last) n notes x h.fresh ex)) h.fresh;
+        whole = replaced_all number Whole y notes wy h.whole;
+        fresh = replaced_all number (λ (z : Note). number z ≤ last) y notes (subst (λ (k : ℕ). k ≤ last) (at_number ∙ sym ny) (all_at number (λ (z : Note). number z ≤ last) n notes x h.fresh ex)) h.fresh;
         rising = subst Rising (sym (numbers_replaced y notes)) h.rising;
         live = each_number (λ m. slot_for m (set os i (lives (Some y))) ≡ lives (find_by number m (replace_by number y notes))) n
-            (slot_set n os i (lives (Some y)) (h.once n) hn ∙ kept_number n y (ltb 0 (rest_of y)) ny ∙ ap lives (sym (put_here number n y notes x ny ex)))
-            (λ m ne. slot_other m os i (lives (Some y)) (other_number m n (get_or os i None) ne hn) (not_other m n y (ltb 0 (rest_of y)) ny ne) ∙ h.live m ∙ ap lives (sym (put_apart number n y notes m ny ne)));
+            (held_here (has_number n) os i (lives (Some y)) (omega (arith, h.once n, ap one hn)) li ∙ kept_number n y (ltb 0 (rest_of y)) ny ∙ ap lives (sym (replaced_here number n y notes x ny ex)))
+            (λ m ne. held_other (has_number m) os i (lives (Some y)) (other_number m n (get_or os i None) ne hn) (not_other m n y (ltb 0 (rest_of y)) ny ne) ∙ h.live m ∙ ap lives (sym (replaced_apart number n y notes m ny ne)));
         once = each_number (λ m. places_of m (set os i (lives (Some y))) ≤ 1) n
-            (few (has_number n (get_or os i None)) (has_number n (lives (Some y))) true (places_of n os) (places_of n (set os i (lives (Some y)))) (places_set n os i (lives (Some y)) li) hn (h.once n))
-            (λ m ne. same_few (has_number m (get_or os i None)) (has_number m (lives (Some y))) (places_of m os) (places_of m (set os i (lives (Some y)))) (places_set m os i (lives (Some y)) li) (other_number m n (get_or os i None) ne hn) (not_other m n y (ltb 0 (rest_of y)) ny ne) (h.once m));
+            (omega (arith, count_set (has_number n) os i (lives (Some y)) li, ap one hn, one_most (has_number n (lives (Some y))), h.once n))
+            (λ m ne. omega (arith, count_set (has_number m) os i (lives (Some y)) li, ap one (not_other m n y (ltb 0 (rest_of y)) ny ne), h.once m));
       }
     where
       at_number : number x ≡ n
@@ -79,11 +63,11 @@ module _ (notes : List Note) (os : List (Option Live)) (last : ℕ) (h : Orders 
         fresh = All-push (λ (z : Note). number z ≤ o.number) notes x (All-weaker (λ (z : Note). number z ≤ last) (λ (z : Note). number z ≤ o.number) (λ z e. omega arith) notes h.fresh) (omega arith);
         rising = rising_more last x notes h.rising h.fresh l;
         live = each_number (λ m. slot_for m (set os i (Some o)) ≡ lives (find_by number m (notes ++ x ∷ []))) o.number
-            (slot_new o.number os i (Some o) nowhere li mine ∙ sym alive ∙ ap lives (sym (push_here number o.number x notes refl none)))
-            (λ m ne. slot_other m os i (Some o) (ap (has_number m) free) (ne_eqb o.number m (λ s. ne (sym s))) ∙ h.live m ∙ ap lives (sym (push_apart number o.number x notes m refl ne)));
+            (held_here (has_number o.number) os i (Some o) (omega (arith, nowhere)) li ∙ ap (λ (b : Bool). cond b (Some o) None) mine ∙ sym alive ∙ ap lives (sym (push_here number o.number x notes refl none)))
+            (λ m ne. held_other (has_number m) os i (Some o) (ap (has_number m) free) (ne_eqb o.number m (λ s. ne (sym s))) ∙ h.live m ∙ ap lives (sym (push_apart number o.number x notes m refl ne)));
         once = each_number (λ m. places_of m (set os i (Some o)) ≤ 1) o.number
-            (new_few (has_number o.number (get_or os i None)) (has_number o.number (Some o)) (places_of o.number os) (places_of o.number (set os i (Some o))) (places_set o.number os i (Some o) li) (ap (has_number o.number) free) nowhere)
-            (λ m ne. same_few (has_number m (get_or os i None)) (has_number m (Some o)) (places_of m os) (places_of m (set os i (Some o))) (places_set m os i (Some o) li) (ap (has_number m) free) (ne_eqb o.number m (λ s. ne (sym s))) (h.once m));
+            (omega (arith, count_set (has_number o.number) os i (Some o) li, one_most (has_number o.number (Some o)), nowhere))
+            (λ m ne. omega (arith, count_set (has_number m) os i (Some o) li, ap one (ne_eqb o.number m (λ s. ne (sym s))), h.once m));
       }
     where
       x : Note
@@ -99,7 +83,7 @@ module _ (notes : List Note) (os : List (Option Live)) (last : ℕ) (h : Orders 
       absent = h.live o.number ∙ ap lives none
 
       nowhere : places_of o.number os ≡ 0
-      nowhere = none_places o.number os absent
+      nowhere = uncounted (has_number o.number) refl os absent
 
       alive : lives (Some x) ≡ Some o
       alive =

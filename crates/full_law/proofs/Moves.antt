@@ -57,53 +57,53 @@ base_floor k opening reserve = by (eqb k.kind 1) (eqb k.kind 2)
     by false true = omega (arith, ints)
     by false false = tt
 
-module _ (reserve : ℕ) (opened : List Opened) (notes : List Note) (times : List Key) (rows : List Row) (b : Books reserve opened notes times rows)
+module _ (reserve : ℕ) (opened : List Opened) (notes : List Note) (leaving : List Key) (rows : List Row) (b : Books reserve opened notes leaving rows)
     (k : Key) (h : OpenRegister) (r : Open rows k h) where
   -- the limit changes and the blocked figure stays: what is left of the limit stays above the base
-  pub relimited_books : (f : Figures) → f.blocked ≡ h.figures.blocked → ((opening : ℕ) → Above (base_of k opening reserve) (h.figures.limit -ℤ h.figures.blocked) → Above (base_of k opening reserve) (f.limit -ℤ h.figures.blocked)) → Books reserve opened notes times (put_row rows h.place f)
+  pub relimited_books : (f : Figures) → f.blocked ≡ h.figures.blocked → ((opening : ℕ) → Above (base_of k opening reserve) (h.figures.limit -ℤ h.figures.blocked) → Above (base_of k opening reserve) (f.limit -ℤ h.figures.blocked)) → Books reserve opened notes leaving (put_row rows h.place f)
   relimited_books f eb leaves =
-      books_change reserve opened notes notes times times rows b h.place r.row r.at f
+      books_change reserve opened notes notes leaving leaving rows b h.place r.row r.at f
       (λ j off. (refl, refl))
       (λ o ko g.
       let kk : k ≡ o.key = sym r.key ∙ sym ko in
-      let old = subst (λ (x : Figures). FairIn reserve notes times x o) r.figures g in
+      let old = subst (λ (x : Figures). FairIn reserve notes leaving x o) r.figures g in
       let left : Above (base_of o.key o.limit reserve) (f.limit -ℤ h.figures.blocked) = subst (λ (x : Key). Above (base_of x o.limit reserve) (h.figures.limit -ℤ h.figures.blocked) → Above (base_of x o.limit reserve) (f.limit -ℤ h.figures.blocked)) kk (leaves o.limit) old.free in
-      let new = fair_limit (base_of o.key o.limit reserve) h.figures.limit h.figures.blocked (pos o.blocked) (live_blocks o.key notes) (slack_of o.key (trades_leaving_rest_on o.key times)) old f.limit left in
+      let new = fair_limit (base_of o.key o.limit reserve) h.figures.limit h.figures.blocked (pos o.blocked) (live_blocks o.key notes) (slack_of o.key (trades_leaving_rest_on o.key leaving)) old f.limit left in
       rw eb new)
 
   -- the limit rises
-  pub raised_books : (m : ℕ) (f : Figures) → f.limit ≡ h.figures.limit +ℤ pos m → f.blocked ≡ h.figures.blocked → Books reserve opened notes times (put_row rows h.place f)
+  pub raised_books : (m : ℕ) (f : Figures) → f.limit ≡ h.figures.limit +ℤ pos m → f.blocked ≡ h.figures.blocked → Books reserve opened notes leaving (put_row rows h.place f)
   raised_books m f el eb = relimited_books f eb (λ opening a. above_more (base_of k opening reserve) (h.figures.limit -ℤ h.figures.blocked) (f.limit -ℤ h.figures.blocked) (omega (arith, ints)) a)
 
   -- a block: the notes grow by it on this register
-  pub blocked_books : (m : ℕ) (notes' : List Note) → ((j : Key) → live_blocks j notes' ≡ live_blocks j notes + cond (same_key k j) m 0) → covered h.figures m (floor_of reserve k) ≡ true → Books reserve opened notes' times (put_row rows h.place (with_blocked h.figures (h.figures.blocked +ℤ pos m)))
+  pub blocked_books : (m : ℕ) (notes' : List Note) → ((j : Key) → live_blocks j notes' ≡ live_blocks j notes + cond (same_key k j) m 0) → covered h.figures m (floor_of reserve k) ≡ true → Books reserve opened notes' leaving (put_row rows h.place (with_blocked h.figures (h.figures.blocked +ℤ pos m)))
   unfolding covered
   blocked_books m notes' grow cover =
-      books_change reserve opened notes notes' times times rows b h.place r.row r.at (with_blocked h.figures (h.figures.blocked +ℤ pos m))
+      books_change reserve opened notes notes' leaving leaving rows b h.place r.row r.at (with_blocked h.figures (h.figures.blocked +ℤ pos m))
       (λ j off. (grow j ∙ ap (λ (t : Bool). live_blocks j notes + cond t m 0) (ap (λ (x : Key). same_key x j) (sym r.key) ∙ off) ∙ omega arith, refl))
       (λ o ko f.
       let kk : k ≡ o.key = sym r.key ∙ sym ko in
       let g : live_blocks o.key notes' ≡ live_blocks o.key notes + m = grow o.key ∙ ap (λ (t : Bool). live_blocks o.key notes + cond t m 0) (key_same k o.key kk) in
       let fl : Above (base_of o.key o.limit reserve) (pos (floor_of reserve k)) = subst (λ (x : Key). Above (base_of o.key o.limit reserve) (pos (floor_of reserve x))) (sym kk) (base_floor o.key o.limit reserve) in
-      fair_block (base_of o.key o.limit reserve) h.figures.limit h.figures.blocked (pos o.blocked) (live_blocks o.key notes) (slack_of o.key (trades_leaving_rest_on o.key times))
-      (subst (λ (x : Figures). FairIn reserve notes times x o) r.figures f) m (live_blocks o.key notes') g (leaves (base_of o.key o.limit reserve) (floor_of reserve k) m cover fl))
+      fair_block (base_of o.key o.limit reserve) h.figures.limit h.figures.blocked (pos o.blocked) (live_blocks o.key notes) (slack_of o.key (trades_leaving_rest_on o.key leaving))
+      (subst (λ (x : Figures). FairIn reserve notes leaving x o) r.figures f) m (live_blocks o.key notes') g (leaves (base_of o.key o.limit reserve) (floor_of reserve k) m cover fl))
     where
       leaves : (base : Option ℤ) (floor u : ℕ) → le_z (pos floor) (h.figures.limit -ℤ (h.figures.blocked +ℤ pos u)) ≡ true → Above base (pos floor) → Above base (h.figures.limit -ℤ (h.figures.blocked +ℤ pos u))
       leaves base floor u c l = above_more base (pos floor) (h.figures.limit -ℤ (h.figures.blocked +ℤ pos u)) (omega (arith, ints)) l
 
   -- an order's rest falls: m is freed, and covers what is paid
-  pub freed_books : (m paid more : ℕ) (notes' : List Note) (times' : List Key) → ((opening : ℕ) → Covers (base_of k opening reserve) paid m) →
-      ((j : Key) → same_key k j ≡ false → (live_blocks j notes' ≡ live_blocks j notes) × (trades_leaving_rest_on j times' ≡ trades_leaving_rest_on j times)) →
-      slack_of k (trades_leaving_rest_on k times') ≡ slack_of k (trades_leaving_rest_on k times) + more → live_blocks k notes' + m ≤ live_blocks k notes + more → live_blocks k notes ≤ live_blocks k notes' + m + more →
-      (f : Figures) → f.limit ≡ h.figures.limit -ℤ pos paid → f.blocked ≡ h.figures.blocked -ℤ pos m → Books reserve opened notes' times' (put_row rows h.place f)
-  freed_books m paid more notes' times' p elsewhere slack most least f el eb =
-      books_change reserve opened notes notes' times times' rows b h.place r.row r.at f
+  pub freed_books : (m paid more : ℕ) (notes' : List Note) (leaving' : List Key) → ((opening : ℕ) → Covers (base_of k opening reserve) paid m) →
+      ((j : Key) → same_key k j ≡ false → (live_blocks j notes' ≡ live_blocks j notes) × (trades_leaving_rest_on j leaving' ≡ trades_leaving_rest_on j leaving)) →
+      slack_of k (trades_leaving_rest_on k leaving') ≡ slack_of k (trades_leaving_rest_on k leaving) + more → live_blocks k notes' + m ≤ live_blocks k notes + more → live_blocks k notes ≤ live_blocks k notes' + m + more →
+      (f : Figures) → f.limit ≡ h.figures.limit -ℤ pos paid → f.blocked ≡ h.figures.blocked -ℤ pos m → Books reserve opened notes' leaving' (put_row rows h.place f)
+  freed_books m paid more notes' leaving' p elsewhere slack most least f el eb =
+      books_change reserve opened notes notes' leaving leaving' rows b h.place r.row r.at f
       (λ j off. elsewhere j (ap (λ (x : Key). same_key x j) (sym r.key) ∙ off))
       (λ o ko g.
       let kk : k ≡ o.key = sym r.key ∙ sym ko in
-      let old = subst (λ (x : Figures). FairIn reserve notes times x o) r.figures g in
-      let new = fair_freed (base_of o.key o.limit reserve) h.figures.limit h.figures.blocked (pos o.blocked) (live_blocks o.key notes) (slack_of o.key (trades_leaving_rest_on o.key times)) old m paid (live_blocks o.key notes') more (slack_of o.key (trades_leaving_rest_on o.key times')) (subst (λ (x : Key). Covers (base_of x o.limit reserve) paid m) kk (p o.limit))
-      (subst (λ (x : Key). slack_of x (trades_leaving_rest_on x times') ≡ slack_of x (trades_leaving_rest_on x times) + more) kk slack)
+      let old = subst (λ (x : Figures). FairIn reserve notes leaving x o) r.figures g in
+      let new = fair_freed (base_of o.key o.limit reserve) h.figures.limit h.figures.blocked (pos o.blocked) (live_blocks o.key notes) (slack_of o.key (trades_leaving_rest_on o.key leaving)) old m paid (live_blocks o.key notes') more (slack_of o.key (trades_leaving_rest_on o.key leaving')) (subst (λ (x : Key). Covers (base_of x o.limit reserve) paid m) kk (p o.limit))
+      (subst (λ (x : Key). slack_of x (trades_leaving_rest_on x leaving') ≡ slack_of x (trades_leaving_rest_on x leaving) + more) kk slack)
       (subst (λ (x : Key). live_blocks x notes' + m ≤ live_blocks x notes + more) kk most)
       (subst (λ (x : Key). live_blocks x notes ≤ live_blocks x notes' + m + more) kk least) in
       rw (el, eb) new)

@@ -113,7 +113,7 @@ pub margin_none : (o : Opening) (k : Key) → opening_key o ≡ Some k → o.mar
 unfolding opening_key
 margin_none o k e = eqb-true o.margin 0 (margin_by k (code_ok o.code) (limit_ok o.limit) (eqb o.margin 0) _ e)
 
-module _ (reserve : ℕ) (opened : List Opened) (notes : List Note) (times : List Key) (rows : List Row) (h : Books reserve opened notes times rows)
+module _ (reserve : ℕ) (opened : List Opened) (notes : List Note) (leaving : List Key) (rows : List Row) (h : Books reserve opened notes leaving rows)
     (k : Key) (limit blocked : ℕ) (absent : (i : ℕ) (r : Row) → slice_get rows i ≡ Some r → same_key r.key k ≡ true → ⊥)
     (f : Figures) (eb : f.blocked ≡ pos blocked) (leaves : Above (base_of k limit reserve) (f.limit -ℤ f.blocked)) where
   abbrev new : Opened
@@ -125,16 +125,16 @@ module _ (reserve : ℕ) (opened : List Opened) (notes : List Note) (times : Lis
   same_length : length rows ≡ length opened
   same_length = sym (length-map rows (λ (r : Row). r.key)) ∙ ap length h.keys ∙ length-map opened (λ (o : Opened). o.key)
 
-  begins_fair : FairIn reserve notes times f new
+  begins_fair : FairIn reserve notes leaving f new
   begins_fair =
       let b = h.blank k absent in
       rw (b.0, b.1, slack_none k) (fair_open (base_of k limit reserve) f.limit f.blocked blocked eb leaves)
 
-  open_fair : (i : ℕ) (r : Row) (o : Opened) → slice_get (rows ++ begins ∷ []) i ≡ Some r → slice_get (opened ++ new ∷ []) i ≡ Some o → FairIn reserve notes times r.figures o
+  open_fair : (i : ℕ) (r : Row) (o : Opened) → slice_get (rows ++ begins ∷ []) i ≡ Some r → slice_get (opened ++ new ∷ []) i ≡ Some o → FairIn reserve notes leaving r.figures o
   open_fair i r o e f =
       ⊎_elim
       (λ p. ⊎_elim
-      (λ q. subst (λ (x : Opened). FairIn reserve notes times r.figures x) (sym q.1) (subst (λ (x : Row). FairIn reserve notes times x.figures new) (sym p.1) begins_fair))
+      (λ q. subst (λ (x : Opened). FairIn reserve notes leaving r.figures x) (sym q.1) (subst (λ (x : Row). FairIn reserve notes leaving x.figures new) (sym p.1) begins_fair))
       (λ g. absurd (omega (arith, p.0, nth_within opened o i g, same_length)))
       (push_nth opened new o i f))
       (λ g. ⊎_elim
@@ -156,7 +156,7 @@ module _ (reserve : ℕ) (opened : List Opened) (notes : List Note) (times : Lis
       (push_nth rows begins q j f))
       (push_nth rows begins r i e)
 
-  pub open_books : Books reserve (opened ++ new ∷ []) notes times (rows ++ begins ∷ [])
+  pub open_books : Books reserve (opened ++ new ∷ []) notes leaving (rows ++ begins ∷ [])
   open_books =
       record {
         keys = map_push (λ (r : Row). r.key) rows begins ∙ ap (λ (ks : List Key). ks ++ k ∷ []) h.keys ∙ sym (map_push (λ (o : Opened). o.key) opened new);

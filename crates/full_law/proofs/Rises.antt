@@ -3,14 +3,15 @@ use Rattle.std.proofs.Common.{◌≤◌, not, ◌&&◌, ◌||◌, eqb, ltb, leng
 use Rattle.registers.specs.declared.row.Row.{Row}
 use Rattle.registers.specs.Stores.{place_for}
 use Rattle.full.specs.Orders.{admitted_as}
-use Rattle.full.specs.Terms.{between, code_ok, security_ok, amount_ok}
+use Rattle.full.specs.Terms.{between, security_ok, asset_ok, amount_ok}
+use Rattle.full.specs.Assets.{asset_named, asset_key}
 use Rattle.full.specs.Blocks.{key_of, units_of}
 use Rattle.full.specs.Checks.{PlacedOf, found_of, ready_of, is_full, pair_of}
 use Rattle.plans.proofs.Keeping.{Keeps, by_demand, by_step, by_there}
 use Rattle.full.specs.declared.open_register.OpenRegister.{OpenRegister}
 use Rattle.full.specs.State.{State}
 use Rattle.full.specs.OpenRegisters.{register_at, block_on, release_on, credit_on, floor_of}
-use Rattle.full.specs.Calls.{admit_of, opening_key, enter_of, open_of, asset_key, credit_of, cover_at, placed_of, announce_of, withdraw_of}
+use Rattle.full.specs.Calls.{admit_of, opening_key, enter_of, open_of, credit_of, cover_at, placed_of, announce_of, withdraw_of}
 use Rattle.full.specs.Trades.{exchange_of, trade_of}
 use Rattle.full.specs.declared.call.Call.{Call}
 use Rattle.full.specs.declared.call.Call.TheVariants.{Admit, Open, Credit, Announce, Withdraw, Trade}
@@ -42,8 +43,8 @@ module _ (s : State) where
       by_demand (Rises s) (eqb k.kind 1 || is_some (admitted_as s.securities k.security)) _ _ λ _.
       enter_rises _
   call_rises (Credit code security amount) =
-      by_demand (Rises s) (code_ok code && ((eqb security 0 || security_ok security) && amount_ok amount)) _ _ λ _.
-      by_step (Rises s) (register_at s.rows (asset_key code security)) _ λ r _.
+      by_demand (Rises s) (asset_ok code security && amount_ok amount) _ _ λ _.
+      by_step (Rises s) (register_at s.rows (asset_key (asset_named security) code)) _ λ r _.
       by_step (Rises s) (credit_on r amount) _ λ c _. omega arith
   call_rises (Announce a) =
       by_demand (Rises s) (eqb a.mode 1) _ _ λ _.

@@ -13,7 +13,7 @@ use Rattle.full.specs.declared.mode.Mode.{Mode}
 use Rattle.full.specs.declared.mode.Mode.TheVariants.{Full, Partial}
 use Rattle.full.specs.declared.deal.Deal.{Deal}
 use Rattle.plans.specs.declared.refusal.Refusal.{Refusal}
-use Rattle.plans.specs.declared.refusal.Refusal.TheVariants.{BadValue, TradeNumber}
+use Rattle.plans.specs.declared.refusal.Refusal.TheVariants.{BadValue, TradeNumberNotAbove}
 use Rattle.full.specs.Terms.{BargainOf, bargain_of}
 use Rattle.plans.specs.Steps.{and_then, demand, or_refuse}
 use Rattle.full.specs.declared.open_register.OpenRegister.{OpenRegister}
@@ -28,7 +28,7 @@ use Rattle.seek.proofs.Cases.{no_case}
 use Rattle.full_law.proofs.Keys.{at_key}
 use Rattle.plans.proofs.Passes.{passed, of_ok}
 use Rattle.full_law.proofs.Rows.{key_same, put_other}
-use Rattle.full_law.proofs.Slots.{one}
+use Rattle.full_law.proofs.Slots.{one, count_cons}
 use Rattle.full_law.proofs.Steps.{Open}
 use Rattle.full_law.proofs.Units.{Parts, left_over, units_parts}
 use Rattle.full_law.proofs.Withdraws.{owed_here}
@@ -55,18 +55,18 @@ module _ (x : Note) (q : ℕ) (w : Whole x) (l : q ≤ rest_of x) where
           ap (λ (n : ℕ). Some (resting x.order n)) (sym traded_rest) ∙ sym (ap (λ (c : Bool). cond c (Some (standing (with_traded q x))) None) t)
 
   -- that a trade left its rest counts on its register alone
-  pub leaving_apart : (times : List Key) (j : Key) → same_key (register_of x) j ≡ false → trades_leaving_rest_on j (trade_leaving_rest (with_traded q x) ++ times) ≡ trades_leaving_rest_on j times
-  leaving_apart times j off = by (ltb 0 (rest_of (with_traded q x)))
+  pub leaving_apart : (leaving : List Key) (j : Key) → same_key (register_of x) j ≡ false → trades_leaving_rest_on j (trade_leaving_rest (with_traded q x) ++ leaving) ≡ trades_leaving_rest_on j leaving
+  leaving_apart leaving j off = by (ltb 0 (rest_of (with_traded q x)))
     where
-      by : (b : Bool) → trades_leaving_rest_on j (cond b (register_of x ∷ []) [] ++ times) ≡ trades_leaving_rest_on j times
-      by true = let e : one (same_key (register_of x) j) ≡ 0 = ap one off in omega arith
+      by : (b : Bool) → trades_leaving_rest_on j (cond b (register_of x ∷ []) [] ++ leaving) ≡ trades_leaving_rest_on j leaving
+      by true = let e : one (same_key (register_of x) j) ≡ 0 = ap one off in omega (arith, count_cons (λ k. same_key k j) (register_of x) leaving)
       by false = refl
 
-  pub leaving_here : (times : List Key) → trades_leaving_rest_on (register_of x) (trade_leaving_rest (with_traded q x) ++ times) ≡ trades_leaving_rest_on (register_of x) times + left_over (rest_of x - q)
-  leaving_here times = ap (λ (n : ℕ). trades_leaving_rest_on (register_of x) (cond (ltb 0 n) (register_of x ∷ []) [] ++ times)) traded_rest ∙ by (ltb 0 (rest_of x - q))
+  pub leaving_here : (leaving : List Key) → trades_leaving_rest_on (register_of x) (trade_leaving_rest (with_traded q x) ++ leaving) ≡ trades_leaving_rest_on (register_of x) leaving + left_over (rest_of x - q)
+  leaving_here leaving = ap (λ (n : ℕ). trades_leaving_rest_on (register_of x) (cond (ltb 0 n) (register_of x ∷ []) [] ++ leaving)) traded_rest ∙ by (ltb 0 (rest_of x - q))
     where
-      by : (b : Bool) → trades_leaving_rest_on (register_of x) (cond b (register_of x ∷ []) [] ++ times) ≡ trades_leaving_rest_on (register_of x) times + cond b 1 0
-      by true = let e : one (same_key (register_of x) (register_of x)) ≡ 1 = ap one (key_same (register_of x) (register_of x) refl) in omega arith
+      by : (b : Bool) → trades_leaving_rest_on (register_of x) (cond b (register_of x ∷ []) [] ++ leaving) ≡ trades_leaving_rest_on (register_of x) leaving + cond b 1 0
+      by true = let e : one (same_key (register_of x) (register_of x)) ≡ 1 = ap one (key_same (register_of x) (register_of x) refl) in omega (arith, count_cons (λ k. same_key k (register_of x)) (register_of x) leaving)
       by false = omega arith
 
 -- what may be off grows by what the trade left
@@ -143,7 +143,7 @@ module _ (os : List (Option Live)) (last : ℕ) (d : Deal) (p : PairOf) where
       })
 
   pair_by : (bo : Option BargainOf) (lt : Bool) (fx fy : Result PlacedOf Refusal) → bargain_of d ≡ bo → found_of os d.buy ≡ fx → found_of os d.sell ≡ fy →
-      and_then (or_refuse bo BadValue) (λ b. demand lt TradeNumber (and_then fx (λ x. and_then fy (λ y. matched_of (record { buy_place = x.place; sell_place = y.place; buy = x.order; sell = y.order; quantity = b.quantity; price = b.price }))))) ≡ Ok p → Matched os last d p
+      and_then (or_refuse bo BadValue) (λ b. demand lt TradeNumberNotAbove (and_then fx (λ x. and_then fy (λ y. matched_of (record { buy_place = x.place; sell_place = y.place; buy = x.order; sell = y.order; quantity = b.quantity; price = b.price }))))) ≡ Ok p → Matched os last d p
   pair_by None lt fx fy e f g z = no_case (cc)
   pair_by (Some b) false fx fy e f g z = no_case (cc)
   pair_by (Some b) true (Err r) fy e f g z = no_case (cc)

@@ -24,7 +24,7 @@ use Rattle.full_law.specs.Law.{lives}
 use Rattle.full_law.proofs.Promises.{Books, Orders, Promise, Whole, base_of}
 use Rattle.plans.proofs.Keeping.{Keeps, by_step}
 use Rattle.full_law.proofs.Fairness.{covers}
-use Rattle.full_law.proofs.Keys.{all_at, at_key, total_put}
+use Rattle.full_law.proofs.Keys.{all_at, at_key, replaced_sum}
 use Rattle.full_law.proofs.Lives.{order_changed}
 use Rattle.full_law.proofs.Moves.{released, freed_books}
 use Rattle.full_law.proofs.Rows.{key_same}
@@ -41,14 +41,14 @@ units_none Partial Sell p k = ap (λ (n : ℕ). rounded 1000000 (n * k)) (zero-m
 module _ (notes : List Note) (n : ℕ) (x y : Note) (ex : find_by number n notes ≡ Some x) (ny : number y ≡ n) (same : register_of y ≡ register_of x) where
   pub owed_here : live_blocks (register_of x) (replace_by number y notes) + units_of (standing x) ≡ live_blocks (register_of x) notes + units_of (standing y)
   owed_here =
-      let e = total_put number (live_block (register_of x)) n y notes x ny ex in
+      let e = replaced_sum number (live_block (register_of x)) n y notes x ny ex in
       let a : live_block (register_of x) x ≡ units_of (standing x) = ap (λ (b : Bool). let k : ℕ = cond b (units_of (standing x)) 0 in k) (key_same (register_of x) (register_of x) refl) in
       let b : live_block (register_of x) y ≡ units_of (standing y) = ap (λ (b : Bool). let k : ℕ = cond b (units_of (standing y)) 0 in k) (key_same (register_of y) (register_of x) same) in
       omega (arith, e, a, b)
 
   pub blocks_apart : (j : Key) → same_key (register_of x) j ≡ false → live_blocks j (replace_by number y notes) ≡ live_blocks j notes
   blocks_apart j off =
-      let e = total_put number (live_block j) n y notes x ny ex in
+      let e = replaced_sum number (live_block j) n y notes x ny ex in
       let a : live_block j x ≡ 0 = ap (λ (b : Bool). let k : ℕ = cond b (units_of (standing x)) 0 in k) off in
       let b : live_block j y ≡ 0 = ap (λ (b : Bool). let k : ℕ = cond b (units_of (standing y)) 0 in k) (ap (λ (z : Key). same_key z j) same ∙ off) in
       omega (arith, e, a, b)

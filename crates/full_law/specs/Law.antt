@@ -1,5 +1,5 @@
 -- The law over whole runs.
-use Rattle.std.specs.Prelude.{◌≡◌, ◌≢◌, ℕ, ◌+◌, ◌≤◌, true, if◌then◌else◌, List, [], ◌∷◌, map, All, AllPairs, pos, ◌+ℤ◌, ◌≤ℤ◌, Some, None, Option, nat_lt}
+use Rattle.std.specs.Prelude.{◌≡◌, ◌≢◌, ℕ, ◌+◌, ◌≤◌, true, if◌then◌else◌, List, map, All, AllPairs, count_by, pos, ◌+ℤ◌, ◌≤ℤ◌, Some, None, Option, nat_lt}
 use Rattle.std.specs.List.{slice_get}
 use Rattle.std.specs.Int.{int_min}
 use Rattle.registers.specs.declared.row.Row.{Row}
@@ -7,16 +7,15 @@ use Rattle.registers.specs.declared.kind.RegisterKind.TheVariants.{Cash, Holding
 use Rattle.registers.specs.Registers.{kind_number, same_key}
 use Rattle.full.specs.Orders.{Live, has_number}
 use Rattle.full.specs.State.{State}
-use Rattle.full_law.specs.Lists.{find_by, total}
+use Rattle.full_law.specs.Lists.{find_by, held_by}
 use Rattle.full_law.specs.Tally.{Opened, Note, Tally, number, rest_of, standing, live_blocks, trades_leaving_rest_on}
 
 -- the live order of a number, and how many places hold it
 abbrev pub slot_for : ℕ → List (Option Live) → Option Live
-slot_for n [] = None
-slot_for n (x ∷ os) = if has_number n x then x else slot_for n os
+slot_for n os = held_by (has_number n) os
 
 abbrev pub places_of : ℕ → List (Option Live) → ℕ
-places_of n os = total (λ o. if has_number n o then 1 else 0) os
+places_of n os = count_by (has_number n) os
 
 -- a note's order lives while it has a rest, as announced and with that rest
 abbrev pub lives : Option Note → Option Live

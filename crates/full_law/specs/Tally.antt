@@ -1,6 +1,6 @@
 -- The tally: a second account of a run, fed only with each call's arguments and whether the call was
 -- accepted. It never looks at the engine.
-use Rattle.std.specs.Prelude.{ℕ, ◌+◌, ◌-◌, if◌then◌else◌, List, [], ◌∷◌, ◌++◌, Some, None, Option, ◌==◌, nat_lt}
+use Rattle.std.specs.Prelude.{ℕ, ◌+◌, ◌-◌, if◌then◌else◌, List, [], ◌∷◌, ◌++◌, Some, None, Option, ◌==◌, nat_lt, count_by, sum_by}
 use Rattle.std.specs.Option.{unwrap_or}
 use Rattle.registers.specs.declared.key.Key.{Key}
 use Rattle.registers.specs.Registers.{same_key}
@@ -11,7 +11,7 @@ use Rattle.full.specs.Terms.{mode_of}
 use Rattle.full.specs.Blocks.{key_of, units_of}
 use Rattle.full.specs.declared.call.Call.{Call}
 use Rattle.full.specs.declared.call.Call.TheVariants.{Admit, Open, Credit, Announce, Withdraw, Trade}
-use Rattle.full_law.specs.Lists.{find_by, replace_by, total}
+use Rattle.full_law.specs.Lists.{find_by, replace_by}
 
 -- a register as it was opened
 pub record Opened : Type 0 where
@@ -94,7 +94,7 @@ abbrev pub live_block : Key → Note → ℕ
 live_block k x = if same_key (register_of x) k then units_of (standing x) else 0
 
 abbrev pub live_blocks : Key → List Note → ℕ
-live_blocks k xs = total (live_block k) xs
+live_blocks k xs = sum_by (live_block k) xs
 
 abbrev pub trades_leaving_rest_on : Key → List Key → ℕ
-trades_leaving_rest_on k ks = total (λ j. if same_key j k then 1 else 0) ks
+trades_leaving_rest_on k ks = count_by (λ j. same_key j k) ks

@@ -93,7 +93,7 @@ pub(crate) fn admit(security: u16, ratio: u16) -> Call {
 }
 
 // cash and holding, buy and sell: short names for the cases of `opening` and `order`, which the tables of calls
-// are full of; all of these are the tests' own, who stand on the engine and its calls and on no program's crate
+// are full of
 
 /// Opens an account's cash.
 pub(crate) fn cash(code: u32, limit: u64) -> Call {

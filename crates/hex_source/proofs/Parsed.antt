@@ -7,9 +7,9 @@ use Rattle.std.proofs.lemmas.List.{append-nil}
 use Rattle.std.proofs.lemmas.List.Elements.{All-nil, All-cons, All-append}
 use Rattle.hex_source.specs.declared.fault.Fault.{Fault}
 use Rattle.hex_source.specs.declared.fault.Fault.TheVariants.{NoDigit, HalfByte}
-use Rattle.hex_source.specs.declared.fault.Misspelling.{Misspelling}
-use Rattle.hex_source.specs.declared.fault.SourceError.{SourceError}
-use Rattle.hex_source.specs.declared.fault.SourceError.TheVariants.{Misspelled, OutOfMemory}
+use Rattle.hex_source.specs.declared.misspelling.Misspelling.{Misspelling}
+use Rattle.hex_source.specs.declared.source_error.SourceError.{SourceError}
+use Rattle.hex_source.specs.declared.source_error.SourceError.TheVariants.{Misspelled, OutOfMemory}
 use Rattle.hex_source.specs.declared.letters.Sign.TheVariants as signs
 use Rattle.hex_source.specs.Letters.{is_hex, sign_of}
 use Rattle.hex_source.specs.Pieces.{Piece, Pair, Blank, Tab, CarriageReturn, LineFeed, Remark, IsPiece, written, bytes_in, IsLastRemark, EndsGroup, BeginsWith, Stray, StrayInByte, Half, HalfAtEnd, IsLaidOut, BreaksOff, IsBreakOf}
@@ -95,27 +95,28 @@ only_rest text h = inl (
 -- what a letter may be
 data Letter : ℕ → Type 0 where
   ADigit : (letter : ℕ) → IsTrue (is_hex letter) → Letter letter
-  ABlank : (letter : ℕ) → letter ≡ 32 → Letter letter
-  ATab : (letter : ℕ) → letter ≡ 9 → Letter letter
-  AReturn : (letter : ℕ) → letter ≡ 13 → Letter letter
-  AFeed : (letter : ℕ) → letter ≡ 10 → Letter letter
+  AParting : (letter : ℕ) (piece : Piece) → IsPiece piece → ((text : List ℕ) → front piece text ≡ letter ∷ text) → EndsGroup (sign_of letter) → Letter letter
   AHash : (letter : ℕ) → letter ≡ 35 → Letter letter
   AStray : (letter : ℕ) → sign_of letter ≡ signs.Other → Letter letter
 
+parting : (letter n : ℕ) (piece : Piece) → letter ≡ n → IsPiece piece → ((text : List ℕ) → front piece text ≡ n ∷ text) → EndsGroup (sign_of n) → Letter letter
+parting letter n piece e is begins ends = subst (λ (m : ℕ). Letter m) (sym e) (AParting n piece is begins ends)
+
 letter_is : (letter : ℕ) → Letter letter
+unfolding front
 letter_is letter = elim (cases_Bool (is_hex letter)) [
   | inl h ↦ ADigit letter h
   | inr no_digit ↦ elim (eqb_tells letter 32) [
-    | inl p ↦ ABlank letter p.1
+    | inl p ↦ parting letter 32 Blank p.1 tt (λ text. refl) tt
     | inr no_blank ↦
         elim (eqb_tells letter 9) [
-          | inl p ↦ ATab letter p.1
+          | inl p ↦ parting letter 9 Tab p.1 tt (λ text. refl) tt
           | inr no_tab ↦
               elim (eqb_tells letter 13) [
-                | inl p ↦ AReturn letter p.1
+                | inl p ↦ parting letter 13 CarriageReturn p.1 tt (λ text. refl) tt
                 | inr no_return ↦
                     elim (eqb_tells letter 10) [
-                      | inl p ↦ AFeed letter p.1
+                      | inl p ↦ parting letter 10 LineFeed p.1 tt (λ text. refl) tt
                       | inr no_feed ↦
                           elim (eqb_tells letter 35) [
                             | inl p ↦ AHash letter p.1
@@ -133,26 +134,16 @@ abbrev pub ParsedAnywhere : List ℕ → Type 0
 ParsedAnywhere text = Parsed text × ((high : ℕ) → IsTrue (is_hex high) → Parsed (high ∷ text)) × ((letters : List ℕ) → OnOneLine letters → Parsed (35 ∷ letters ++ text))
 
 between : (letter : ℕ) (text : List ℕ) → Letter letter → ParsedAnywhere text → Parsed (letter ∷ text)
-unfolding front
 between _ text (ADigit letter h) p = p.1 letter h
-between _ text (ABlank letter e) p = subst (λ (n : ℕ). Parsed (n ∷ text)) (sym e) (parsed-front Blank text tt p.0)
-between _ text (ATab letter e) p = subst (λ (n : ℕ). Parsed (n ∷ text)) (sym e) (parsed-front Tab text tt p.0)
-between _ text (AReturn letter e) p = subst (λ (n : ℕ). Parsed (n ∷ text)) (sym e) (parsed-front CarriageReturn text tt p.0)
-between _ text (AFeed letter e) p = subst (λ (n : ℕ). Parsed (n ∷ text)) (sym e) (parsed-front LineFeed text tt p.0)
+between _ text (AParting letter piece is begins ends) p = subst Parsed (begins text) (parsed-front piece text is p.0)
 between _ text (AHash letter e) p = subst (λ (n : ℕ). Parsed (n ∷ text)) (sym e) (p.2 [] (All-nil (λ (n : ℕ). n ≢ 10)))
 between _ text (AStray letter h) p = breaks_at_once (letter ∷ text) (NoDigit letter) (Stray letter text h)
-
-half : (high letter : ℕ) (text : List ℕ) → IsTrue (is_hex high) → (n : ℕ) → letter ≡ n → EndsGroup (sign_of n) → Parsed (high ∷ letter ∷ text)
-half high letter text h n e ends = breaks_at_once (high ∷ letter ∷ text) HalfByte (Half high letter text h (subst (λ (m : ℕ). EndsGroup (sign_of m)) (sym e) ends))
 
 behind_digit : (high letter : ℕ) (text : List ℕ) → IsTrue (is_hex high) → Letter letter → ParsedAnywhere text → Parsed (high ∷ letter ∷ text)
 unfolding front
 behind_digit high _ text h (ADigit letter k) p = parsed-front (Pair high letter) text (h, k) p.0
-behind_digit high _ text h (ABlank letter e) p = half high letter text h 32 e tt
-behind_digit high _ text h (ATab letter e) p = half high letter text h 9 e tt
-behind_digit high _ text h (AReturn letter e) p = half high letter text h 13 e tt
-behind_digit high _ text h (AFeed letter e) p = half high letter text h 10 e tt
-behind_digit high _ text h (AHash letter e) p = half high letter text h 35 e tt
+behind_digit high _ text h (AParting letter piece is begins ends) p = breaks_at_once (high ∷ letter ∷ text) HalfByte (Half high letter text h ends)
+behind_digit high _ text h (AHash letter e) p = breaks_at_once (high ∷ letter ∷ text) HalfByte (Half high letter text h (subst (λ (n : ℕ). EndsGroup (sign_of n)) (sym e) tt))
 behind_digit high _ text h (AStray letter k) p = breaks_at_once (high ∷ letter ∷ text) (NoDigit letter) (StrayInByte high letter text h k)
 
 in_remark : (letters : List ℕ) (letter : ℕ) (text : List ℕ) → OnOneLine letters → ParsedAnywhere text → Parsed (35 ∷ letters ++ (letter ∷ text))

@@ -8,17 +8,17 @@ use Rattle.std.proofs.lemmas.List.Elements.{All-head, All-tail}
 use Rattle.std.proofs.lemmas.List.Sums.{sum_by-cons}
 use Rattle.hex_source.specs.declared.fault.Fault.{Fault}
 use Rattle.hex_source.specs.declared.fault.Fault.TheVariants.{NoDigit, HalfByte}
-use Rattle.hex_source.specs.declared.fault.Misspelling.{Misspelling}
-use Rattle.hex_source.specs.declared.fault.SourceError.{SourceError}
-use Rattle.hex_source.specs.declared.fault.SourceError.TheVariants.{Misspelled, OutOfMemory}
+use Rattle.hex_source.specs.declared.misspelling.Misspelling.{Misspelling}
+use Rattle.hex_source.specs.declared.source_error.SourceError.{SourceError}
+use Rattle.hex_source.specs.declared.source_error.SourceError.TheVariants.{Misspelled, OutOfMemory}
 use Rattle.hex_source.specs.declared.letters.Sign.{Sign}
 use Rattle.hex_source.specs.declared.letters.Sign.TheVariants as signs
 use Rattle.hex_source.specs.declared.standing.Standing.TheVariants as standings
-use Rattle.hex_source.specs.declared.standing.Effect.TheVariants.{Goes, Fails}
+use Rattle.hex_source.specs.declared.effect.Effect.TheVariants.{Goes, Gives, Fails}
 use Rattle.hex_source.specs.Letters.{is_hex, sign_of}
 use Rattle.hex_source.specs.Spelling.{effect_of, fault_in, in_front, line_behind, behind, spelled_from, spelled, IsFaultOf, IsOutOfMemory, IsThatFault}
 use Rattle.hex_source.specs.Pieces.{Piece, Pair, Blank, Tab, CarriageReturn, LineFeed, Remark, IsPiece, written, bytes_in, IsLastRemark, EndsGroup, BeginsWith, Stray, StrayInByte, Half, HalfAtEnd, IsLaidOut, BreaksOff}
-use Rattle.hex_source.proofs.Letterwise.{behind-none, spelled-goes, spelled-gives, spelled-fails}
+use Rattle.hex_source.proofs.Letterwise.{behind-none, spelled-letter}
 
 -- a digit is a digit by its sign, and ends no line
 pub sign_of-hex : (letter : ℕ) → IsTrue (is_hex letter) → sign_of letter ≡ signs.Digit (digit_value letter)
@@ -51,14 +51,14 @@ spelled-remark : (letters : List ℕ) (line : ℕ) (text : List ℕ) → All (λ
 spelled-remark [] line text h = refl
 spelled-remark (letter ∷ letters) line text h =
     let ne : letter ≢ 10 = All-head (λ (x : ℕ). x ≢ 10) letter letters h in
-    spelled-goes standings.Remark standings.Remark line letter (letters ++ (10 ∷ text)) (stays letter ne)
+    spelled-letter standings.Remark (Goes standings.Remark) line letter (letters ++ (10 ∷ text)) (stays letter ne)
     ∙ (ap (λ (n : ℕ). spelled_from standings.Remark n (letters ++ (10 ∷ text))) (line_behind-other letter line ne)
     ∙ spelled-remark letters line text (All-tail (λ (x : ℕ). x ≢ 10) letter letters h))
 
 spelled-last_remark : (letters : List ℕ) (line : ℕ) → All (λ letter. letter ≢ 10) letters → spelled_from standings.Remark line letters ≡ Ok []
 spelled-last_remark [] line h = refl
 spelled-last_remark (letter ∷ letters) line h =
-    spelled-goes standings.Remark standings.Remark line letter letters (stays letter (All-head (λ (x : ℕ). x ≢ 10) letter letters h))
+    spelled-letter standings.Remark (Goes standings.Remark) line letter letters (stays letter (All-head (λ (x : ℕ). x ≢ 10) letter letters h))
     ∙ spelled-last_remark letters (line_behind letter line) (All-tail (λ (x : ℕ). x ≢ 10) letter letters h)
 
 feeds-remark : (letters text : List ℕ) → All (λ letter. letter ≢ 10) letters → feeds (letters ++ (10 ∷ text)) ≡ 1 + feeds text
@@ -69,18 +69,23 @@ feeds-remark (letter ∷ letters) text h =
 -- the two digits of a byte
 spelled-first_digit : (line high : ℕ) (text : List ℕ) → IsTrue (is_hex high) → spelled_from standings.Between line (high ∷ text) ≡ spelled_from (standings.Half (digit_value high)) line text
 spelled-first_digit line high text h =
-    spelled-goes standings.Between (standings.Half (digit_value high)) line high text (ap (λ (s : Sign). effect_of standings.Between high s) (sign_of-hex high h))
+    spelled-letter standings.Between (Goes (standings.Half (digit_value high))) line high text (ap (λ (s : Sign). effect_of standings.Between high s) (sign_of-hex high h))
     ∙ ap (λ (n : ℕ). spelled_from (standings.Half (digit_value high)) n text) (line_behind-other high line (hex_is_no_feed high h))
 
 pub spelled-pair : (line high low : ℕ) (text : List ℕ) → IsTrue (is_hex high) → IsTrue (is_hex low) → spelled_from standings.Between line (high ∷ low ∷ text) ≡ in_front (16 * digit_value high + digit_value low) (spelled_from standings.Between line text)
 spelled-pair line high low text h k =
     spelled-first_digit line high (low ∷ text) h
-    ∙ (spelled-gives (standings.Half (digit_value high)) (16 * digit_value high + digit_value low) line low text (ap (λ (s : Sign). effect_of (standings.Half (digit_value high)) low s) (sign_of-hex low k))
+    ∙ (spelled-letter (standings.Half (digit_value high)) (Gives (16 * digit_value high + digit_value low)) line low text (ap (λ (s : Sign). effect_of (standings.Half (digit_value high)) low s) (sign_of-hex low k))
     ∙ ap (λ (n : ℕ). in_front (16 * digit_value high + digit_value low) (spelled_from standings.Between n text)) (line_behind-other low line (hex_is_no_feed low k)))
 
 in_front-behind : (byte : ℕ) (bytes : List ℕ) (r : Result (List ℕ) Misspelling) → in_front byte (behind bytes r) ≡ behind (byte ∷ bytes) r
 in_front-behind byte bytes (Ok more) = refl
 in_front-behind byte bytes (Err misspelling) = refl
+
+-- a letter in front that ends no line moves no line number
+parted : (letter : ℕ) (pieces : List Piece) (line : ℕ) (rest : List ℕ) → letter ≢ 10 → spelled_from standings.Between line (written pieces ++ rest) ≡ behind (bytes_in pieces) (spelled_from standings.Between (line + feeds (written pieces)) rest) → spelled_from standings.Between line (written pieces ++ rest) ≡ behind (bytes_in pieces) (spelled_from standings.Between (line + feeds (letter ∷ written pieces)) rest)
+parted letter pieces line rest ne e =
+    e ∙ ap (λ (n : ℕ). behind (bytes_in pieces) (spelled_from standings.Between (line + n) rest)) (sym (feeds-other letter (written pieces) ne))
 
 -- pieces are read as their bytes, and what follows is read from the line on in which they end
 pub spelled-pieces : (pieces : List Piece) (line : ℕ) (rest : List ℕ) → All IsPiece pieces → spelled_from standings.Between line (written pieces ++ rest) ≡ behind (bytes_in pieces) (spelled_from standings.Between (line + feeds (written pieces)) rest)
@@ -94,15 +99,9 @@ spelled-pieces (Pair high low ∷ pieces) line rest h =
     ∙ (ap (λ (r : Result (List ℕ) Misspelling). in_front (16 * digit_value high + digit_value low) r) (spelled-pieces pieces line rest (All-tail IsPiece (Pair high low) pieces h))
     ∙ (in_front-behind _ (bytes_in pieces) _
     ∙ ap (λ (n : ℕ). behind (bytes_in (Pair high low ∷ pieces)) (spelled_from standings.Between (line + n) rest)) (sym few)))
-spelled-pieces (Blank ∷ pieces) line rest h =
-    spelled-pieces pieces line rest (All-tail IsPiece Blank pieces h)
-    ∙ ap (λ (n : ℕ). behind (bytes_in pieces) (spelled_from standings.Between (line + n) rest)) (sym (feeds-other 32 (written pieces) (omega arith)))
-spelled-pieces (Tab ∷ pieces) line rest h =
-    spelled-pieces pieces line rest (All-tail IsPiece Tab pieces h)
-    ∙ ap (λ (n : ℕ). behind (bytes_in pieces) (spelled_from standings.Between (line + n) rest)) (sym (feeds-other 9 (written pieces) (omega arith)))
-spelled-pieces (CarriageReturn ∷ pieces) line rest h =
-    spelled-pieces pieces line rest (All-tail IsPiece CarriageReturn pieces h)
-    ∙ ap (λ (n : ℕ). behind (bytes_in pieces) (spelled_from standings.Between (line + n) rest)) (sym (feeds-other 13 (written pieces) (omega arith)))
+spelled-pieces (Blank ∷ pieces) line rest h = parted 32 pieces line rest (omega arith) (spelled-pieces pieces line rest (All-tail IsPiece Blank pieces h))
+spelled-pieces (Tab ∷ pieces) line rest h = parted 9 pieces line rest (omega arith) (spelled-pieces pieces line rest (All-tail IsPiece Tab pieces h))
+spelled-pieces (CarriageReturn ∷ pieces) line rest h = parted 13 pieces line rest (omega arith) (spelled-pieces pieces line rest (All-tail IsPiece CarriageReturn pieces h))
 spelled-pieces (LineFeed ∷ pieces) line rest h =
     let one : line + 1 + feeds (written pieces) ≡ line + feeds (10 ∷ written pieces) = omega (arith, sum_by-cons (λ (letter : ℕ). if letter == 10 then 1 else 0) 10 (written pieces)) in
     spelled-pieces pieces (line + 1) rest (All-tail IsPiece LineFeed pieces h)
@@ -139,13 +138,13 @@ half_by value letter signs.Other h = absurd h
 
 spelled-begins : (rest : List ℕ) (fault : Fault) (line : ℕ) → BeginsWith rest fault → spelled_from standings.Between line rest ≡ fault_in line fault
 spelled-begins _ _ line (Stray letter more h) =
-    spelled-fails standings.Between (NoDigit letter) line letter more (ap (λ (s : Sign). effect_of standings.Between letter s) h)
+    spelled-letter standings.Between (Fails (NoDigit letter)) line letter more (ap (λ (s : Sign). effect_of standings.Between letter s) h)
 spelled-begins _ _ line (StrayInByte high letter more h k) =
     spelled-first_digit line high (letter ∷ more) h
-    ∙ spelled-fails (standings.Half (digit_value high)) (NoDigit letter) line letter more (ap (λ (s : Sign). effect_of (standings.Half (digit_value high)) letter s) k)
+    ∙ spelled-letter (standings.Half (digit_value high)) (Fails (NoDigit letter)) line letter more (ap (λ (s : Sign). effect_of (standings.Half (digit_value high)) letter s) k)
 spelled-begins _ _ line (Half high letter more h k) =
     spelled-first_digit line high (letter ∷ more) h
-    ∙ spelled-fails (standings.Half (digit_value high)) HalfByte line letter more (half_by (digit_value high) letter (sign_of letter) k)
+    ∙ spelled-letter (standings.Half (digit_value high)) (Fails HalfByte) line letter more (half_by (digit_value high) letter (sign_of letter) k)
 spelled-begins _ _ line (HalfAtEnd high h) = spelled-first_digit line high [] h
 
 -- a text that breaks off has the fault, in its line

@@ -4,7 +4,7 @@ use Rattle.std.specs.Char.{digit_value}
 use Rattle.std.proofs.lemmas.Bool.{lt-ltb}
 use Rattle.std.proofs.lemmas.List.Elements.{All-head, All-tail, All-from_get_or}
 use Rattle.std.proofs.lemmas.Bool.Decides.{nat_tests}
-use Rattle.hex_source.specs.declared.fault.Misspelling.{Misspelling}
+use Rattle.hex_source.specs.declared.misspelling.Misspelling.{Misspelling}
 use Rattle.hex_source.specs.declared.standing.Standing.TheVariants as standings
 use Rattle.hex_source.specs.Letters.{is_hex, digit, plain}
 use Rattle.hex_source.specs.Spelling.{in_front, spelled_from, spelled}

@@ -4,9 +4,9 @@ use Rattle.std.specs.Prelude.{◌≡◌, ◌≢◌, ℕ, ◌+◌, ◌*◌, ⊤, 
 use Rattle.std.specs.Char.{digit_value}
 use Rattle.hex_source.specs.declared.fault.Fault.{Fault}
 use Rattle.hex_source.specs.declared.fault.Fault.TheVariants.{NoDigit, HalfByte}
-use Rattle.hex_source.specs.declared.fault.Misspelling.{Misspelling}
-use Rattle.hex_source.specs.declared.fault.SourceError.{SourceError}
-use Rattle.hex_source.specs.declared.fault.SourceError.TheVariants.{Misspelled, OutOfMemory}
+use Rattle.hex_source.specs.declared.misspelling.Misspelling.{Misspelling}
+use Rattle.hex_source.specs.declared.source_error.SourceError.{SourceError}
+use Rattle.hex_source.specs.declared.source_error.SourceError.TheVariants.{Misspelled, OutOfMemory}
 use Rattle.hex_source.specs.declared.letters.Sign.{Sign}
 use Rattle.hex_source.specs.declared.letters.Sign.TheVariants as signs
 use Rattle.hex_source.specs.Letters.{is_hex, sign_of}

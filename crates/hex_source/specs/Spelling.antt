@@ -2,15 +2,15 @@
 use Rattle.std.specs.Prelude.{◌≡◌, ℕ, ◌+◌, ◌*◌, ◌<◌, ⊤, List, [], ◌∷◌, ◌++◌, Ok, Err, Result, ◌==◌, if◌then◌else◌}
 use Rattle.hex_source.specs.declared.fault.Fault.{Fault}
 use Rattle.hex_source.specs.declared.fault.Fault.TheVariants.{NoDigit, HalfByte}
-use Rattle.hex_source.specs.declared.fault.Misspelling.{Misspelling}
-use Rattle.hex_source.specs.declared.fault.SourceError.{SourceError}
-use Rattle.hex_source.specs.declared.fault.SourceError.TheVariants.{Misspelled, OutOfMemory}
+use Rattle.hex_source.specs.declared.misspelling.Misspelling.{Misspelling}
+use Rattle.hex_source.specs.declared.source_error.SourceError.{SourceError}
+use Rattle.hex_source.specs.declared.source_error.SourceError.TheVariants.{Misspelled, OutOfMemory}
 use Rattle.hex_source.specs.declared.letters.Sign.{Sign}
 use Rattle.hex_source.specs.declared.letters.Sign.TheVariants.{Digit, Blank, LineEnd, Hash, Other}
 use Rattle.hex_source.specs.declared.standing.Standing.{Standing}
 use Rattle.hex_source.specs.declared.standing.Standing.TheVariants.{Between, Half, Remark}
-use Rattle.hex_source.specs.declared.standing.Effect.{Effect}
-use Rattle.hex_source.specs.declared.standing.Effect.TheVariants.{Goes, Gives, Fails}
+use Rattle.hex_source.specs.declared.effect.Effect.{Effect}
+use Rattle.hex_source.specs.declared.effect.Effect.TheVariants.{Goes, Gives, Fails}
 use Rattle.hex_source.specs.Letters.{sign_of}
 
 -- what a letter with its sign makes of a reading
@@ -38,10 +38,10 @@ in_front byte (Ok bytes) = Ok (byte ∷ bytes)
 in_front byte (Err misspelling) = Err misspelling
 
 -- the effect of a letter in a line, and behind it what is spelled from the next standing on
-abbrev pub onward : Effect → ℕ → (Standing → Result (List ℕ) Misspelling) → Result (List ℕ) Misspelling
-onward (Goes next) line behind = behind next
-onward (Gives byte) line behind = in_front byte (behind Between)
-onward (Fails fault) line behind = fault_in line fault
+abbrev pub spelled_by : Effect → ℕ → (Standing → Result (List ℕ) Misspelling) → Result (List ℕ) Misspelling
+spelled_by (Goes next) line behind = behind next
+spelled_by (Gives byte) line behind = in_front byte (behind Between)
+spelled_by (Fails fault) line behind = fault_in line fault
 
 -- what a text has spelled that ends at a standing: a byte that has only its first digit is a fault
 abbrev pub ended : Standing → ℕ → Result (List ℕ) Misspelling
@@ -57,7 +57,7 @@ line_behind letter line = if letter == 10 then line + 1 else line
 abbrev pub spelled_from : Standing → ℕ → List ℕ → Result (List ℕ) Misspelling
 spelled_from standing line [] = ended standing line
 spelled_from standing line (letter ∷ text) =
-    onward (effect_of standing letter (sign_of letter)) line (λ next. spelled_from next (line_behind letter line) text)
+    spelled_by (effect_of standing letter (sign_of letter)) line (λ next. spelled_from next (line_behind letter line) text)
 
 -- the bytes that a text spells, or its first fault
 abbrev pub spelled : List ℕ → Result (List ℕ) Misspelling

@@ -3,9 +3,9 @@ use Rattle.std.specs.Prelude.{ℕ, ◌/◌, ◌%◌, List, ◌++◌, codes, deci
 use Rattle.std.specs.Char.{is_ascii_graphic}
 use Rattle.hex_source.specs.declared.fault.Fault.{Fault}
 use Rattle.hex_source.specs.declared.fault.Fault.TheVariants.{NoDigit, HalfByte}
-use Rattle.hex_source.specs.declared.fault.Misspelling.{Misspelling}
-use Rattle.hex_source.specs.declared.fault.SourceError.{SourceError}
-use Rattle.hex_source.specs.declared.fault.SourceError.TheVariants.{Misspelled, OutOfMemory}
+use Rattle.hex_source.specs.declared.misspelling.Misspelling.{Misspelling}
+use Rattle.hex_source.specs.declared.source_error.SourceError.{SourceError}
+use Rattle.hex_source.specs.declared.source_error.SourceError.TheVariants.{Misspelled, OutOfMemory}
 use Rattle.hex_source.specs.Letters.{digit}
 
 -- a letter that is no digit: as it looks, where it can be seen, and else as a byte in hex

@@ -1,12 +1,9 @@
-//! What is wrong with a text.
+//! Why a letter cannot stand where it stands.
 
-ghost use Rattle.std.specs.Prelude.{◌≡◌, Some};
-ghost use Rattle.hex_source.specs.declared.fault.SourceError.TheVariants.{OutOfMemory};
-ghost use Rattle.hex_source.specs.Texts.{fault_text, misspelling_text, error_text};
+ghost use Rattle.std.specs.Prelude.{Some};
+ghost use Rattle.hex_source.specs.Texts.{fault_text};
 
 use crate::letters::digit;
-use std::alloc::AllocFailed;
-use std::error::Error;
 use std::fmt;
 
 /// Why a letter cannot stand where it stands.
@@ -16,22 +13,6 @@ pub enum Fault {
     NoDigit(u8),
     /// A byte has only its first digit.
     HalfByte,
-}
-
-/// A fault, and its line, counted from 1.
-#[derive(Clone, Copy, PartialEq, Eq, Debug)]
-pub struct Misspelling {
-    pub line: usize,
-    pub fault: Fault,
-}
-
-/// Why a text gave no bytes.
-#[derive(Clone, Copy, PartialEq, Eq, Debug)]
-pub enum SourceError {
-    /// The text spells no bytes; this is the first of its faults.
-    Misspelled(Misspelling),
-    /// There is no memory left for the bytes.
-    OutOfMemory,
 }
 
 impl fmt::Display for Fault {
@@ -49,36 +30,5 @@ impl fmt::Display for Fault {
             }
             Fault::HalfByte => write!(f, "half a byte"),
         }
-    }
-}
-
-impl fmt::Display for Misspelling {
-    ghost output = { λ misspelling. Some (misspelling_text misspelling) };
-
-    fn fmt<W: fmt::Write>(&self, f: &mut fmt::Formatter<W>) -> fmt::Result {
-        let line = self.line;
-        let fault = self.fault;
-        write!(f, "line {line}: {fault}")
-    }
-}
-
-impl fmt::Display for SourceError {
-    ghost output = { λ error. Some (error_text error) };
-
-    fn fmt<W: fmt::Write>(&self, f: &mut fmt::Formatter<W>) -> fmt::Result {
-        match *self {
-            SourceError::Misspelled(misspelling) => write!(f, "{misspelling}"),
-            SourceError::OutOfMemory => write!(f, "out of memory"),
-        }
-    }
-}
-
-impl Error for SourceError {}
-
-impl<T: Drop> From<AllocFailed<T>> for SourceError {
-    ghost from_gives = { λ _ e. e ≡ OutOfMemory };
-
-    fn from(_failed: AllocFailed<T>) -> SourceError {
-        SourceError::OutOfMemory
     }
 }

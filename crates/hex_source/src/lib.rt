@@ -6,9 +6,12 @@
 //! digit whose byte has no second one; a fault is told with its line.
 #![tactic(auto)]
 
+mod effect;
 pub mod fault;
 mod letters;
+pub mod misspelling;
 pub mod reading;
+pub mod source_error;
 mod standing;
 #[cfg(test)]
 mod tests;

@@ -1,12 +1,15 @@
 //! Reading bytes from a text.
 
 ghost use Rattle.std.specs.Prelude.{◌≡◌, ℕ, List, Ok, IfOk, IfErr, IsErrAnd, MatchResult};
-ghost use Rattle.hex_source.specs.declared.fault.Misspelling.{Misspelling};
+ghost use Rattle.hex_source.specs.declared.misspelling.Misspelling.{Misspelling};
 ghost use Rattle.hex_source.specs.Pieces.{IsLaidOut, BreaksOff, IsBreakOf};
 ghost use Rattle.hex_source.specs.Spelling.{behind, ended, spelled, IsFaultOf, IsOutOfMemory, IsThatFault};
 
-use crate::fault::{Fault, Misspelling, SourceError};
-use crate::standing::{Effect, Standing};
+use crate::effect::Effect;
+use crate::fault::Fault;
+use crate::misspelling::Misspelling;
+use crate::source_error::SourceError;
+use crate::standing::Standing;
 use std::alloc::Global;
 
 /// A text that was read to its end.

@@ -1,9 +1,10 @@
-//! Where the reading of a text stands, and what a letter makes of it.
+//! Where the reading of a text stands.
 
 ghost use Rattle.std.specs.Prelude.{◌≡◌};
 ghost use Rattle.hex_source.specs.Letters.{sign_of};
 ghost use Rattle.hex_source.specs.Spelling.{HoldsDigit, LeavesDigit, effect_of};
 
+use crate::effect::Effect;
 use crate::fault::Fault;
 use crate::letters::Sign;
 
@@ -16,17 +17,6 @@ pub(crate) enum Standing {
     Half(u8),
     /// In a remark.
     Remark,
-}
-
-/// What a letter makes of the reading.
-#[derive(Clone, Copy, PartialEq, Eq, Debug)]
-pub(crate) enum Effect {
-    /// The reading goes on from here.
-    Goes(Standing),
-    /// The letter ends this byte, and the reading stands between bytes.
-    Gives(u8),
-    /// The letter cannot stand here.
-    Fails(Fault),
 }
 
 impl Standing {

@@ -1,6 +1,6 @@
 //! The text of orders, and of registers with the engine's figures beside the tally's.
 
-use crate::notes::Note;
+use crate::note::Note;
 use crate::tally::Tally;
 use registers::row::Row;
 use registers::store::Store;

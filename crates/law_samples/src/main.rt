@@ -4,12 +4,17 @@
 #![tactic(auto)]
 
 mod call_list;
+mod costs;
 mod dealings;
 mod figures;
-mod notes;
+mod note;
+mod obligations;
+mod opened;
 mod owed;
 mod partial_dealings;
 mod pool_dealings;
+mod printed_obligation;
+mod printed_standing;
 mod runs;
 mod tally;
 

@@ -2,7 +2,7 @@
 
 use crate::call_list::CallList;
 use crate::figures::show_figures;
-use crate::owed::show_obligations;
+use crate::obligations::show_obligations;
 use crate::tally::Tally;
 use counting::counting::Counting;
 use full::call::Call as FullCall;
@@ -12,10 +12,9 @@ use plans::refusal::Refusal;
 use pool::call::Call;
 use pool::engine::Engine;
 use pool::ticket::{Collecting, Ending};
-use printing::shown::ShownOutcome;
-use printing::shown_pool::ShownPoolCall;
-use registers::image;
-use registers::image::ImageStore;
+use printing::printed_outcome::PrintedOutcome;
+use printing::printed_pool_call::PrintedPoolCall;
+use registers::image::{self, HEADER, ImageStore, ROW};
 use registers::row::BLANK;
 use registers::store::Store;
 use registers::table::RowStore;
@@ -33,7 +32,7 @@ fn show_call(
     call: Call,
     outcome: Result<i64, Refusal>,
 ) -> io::Result<()> {
-    println!(rt; "{}: {}", ShownPoolCall(call), ShownOutcome(outcome))?;
+    println!(rt; "{}: {}", PrintedPoolCall(call), PrintedOutcome(outcome))?;
     if outcome.is_ok() {
         tally.enter(call)?;
     }
@@ -120,7 +119,7 @@ pub(crate) fn show_over_both(rt: &HostRuntime, list: CallList<'_>) -> io::Result
     let mut table = [BLANK; ROOM];
     show_run(rt, RowStore::new(&mut table), list)?;
     println!(rt; "{list} over an image store")?;
-    let mut bytes = [0; 7 + 31 * ROOM];
+    let mut bytes = [0; HEADER + ROW * ROOM];
     // long enough for a header
     let _ = image::format(&mut bytes);
     show_run(rt, ImageStore::new(&mut bytes), list)

@@ -1,6 +1,9 @@
 //! A second account of a run of any level, kept from the calls and their outcomes alone.
 
-use crate::notes::{Note, Opened, Owed, cost};
+use crate::costs::cost;
+use crate::note::Note;
+use crate::opened::Opened;
+use crate::owed::Owed;
 use full::announcement::Announcement;
 use full::call::Call as FullCall;
 use full::deal::Deal;

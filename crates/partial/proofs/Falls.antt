@@ -1,5 +1,5 @@
 -- Figures that fall out of their range, and fall further, stay out of it.
-use Rattle.std.proofs.Common.{◌≡◌, ℕ, Bool, true, false, ◌&&◌, ℤ, pos, negsuc, ◌+ℤ◌, ◌-ℤ◌, ◌≤ℤ◌, refl, arith}
+use Rattle.std.proofs.Common.{◌≡◌, ℕ, Bool, true, false, ℤ, pos, negsuc, ◌+ℤ◌, ◌-ℤ◌, ◌≤ℤ◌, refl, arith}
 use lib.Signed.{le_z}
 use Rattle.std.proofs.lemmas.Bool.{and_parts}
 use Rattle.std.proofs.lemmas.Int.{ints}
@@ -25,32 +25,41 @@ bounded_between x y z bx bz l u =
     let high : le_z y (pos 1000000000000000) ≡ true = le_holds y (pos 1000000000000000) (omega (arith, ints, px.1)) in
     rw (low, high)
 
-pub all_true : (a b c d e : Bool) → a ≡ true → b ≡ true → c ≡ true → d ≡ true → e ≡ true → (a && (b && (c && (d && e)))) ≡ true
-all_true true true true true true p q r s t = refl
-all_true false b c d e p q r s t = no_case (cc)
-all_true true false c d e p q r s t = no_case (cc)
-all_true true true false d e p q r s t = no_case (cc)
-all_true true true true false e p q r s t = no_case (cc)
-all_true true true true true false p q r s t = no_case (cc)
+-- figures in range, part by part
+pub record Parts (f : Figures) : Type 0 where
+  pub limit : bounded f.limit ≡ true
+  pub blocked : bounded f.blocked ≡ true
+  pub third : bounded f.third ≡ true
+  pub sum : bounded (f.limit +ℤ f.third) ≡ true
+  pub least : le_z (pos 0) f.third ≡ true
+
+pub parts : (f : Figures) → in_range f ≡ true → Parts f
+unfolding in_range
+parts f h =
+    let l = and_parts (bounded f.limit) _ h in
+    let b = and_parts (bounded f.blocked) _ l.1 in
+    let t = and_parts (bounded f.third) _ b.1 in
+    let s = and_parts (bounded (f.limit +ℤ f.third)) _ t.1 in
+    record { limit = l.0; blocked = b.0; third = t.0; sum = s.0; least = s.1 }
+
+pub whole : (f : Figures) → Parts f → in_range f ≡ true
+unfolding in_range
+whole f p = rw (p.limit, p.blocked, p.third, p.sum, p.least)
 
 -- figures that fell once, between figures in range and figures that fell again
 fell_once : (f : Figures) (v k v' k' : ℕ) → in_range f ≡ true → in_range (paid_of (paid_of f v k) v' k') ≡ true → in_range (paid_of f v k) ≡ true
-unfolding in_range paid_of
+unfolding paid_of
 fell_once f v k v' k' h e =
-    let hl = and_parts (bounded f.limit) _ h in
-    let hb = and_parts (bounded f.blocked) _ hl.1 in
-    let ht = and_parts (bounded f.third) _ hb.1 in
-    let hs = and_parts (bounded (f.limit +ℤ f.third)) _ ht.1 in
-    let el = and_parts (bounded (f.limit -ℤ pos v -ℤ pos v')) _ e in
-    let eb = and_parts (bounded (f.blocked -ℤ pos k -ℤ pos k')) _ el.1 in
-    let et = and_parts (bounded f.third) _ eb.1 in
-    let es = and_parts (bounded ((f.limit -ℤ pos v -ℤ pos v') +ℤ f.third)) _ et.1 in
-    all_true _ _ _ _ _
-    (bounded_between f.limit (f.limit -ℤ pos v) (f.limit -ℤ pos v -ℤ pos v') hl.0 el.0 (omega (arith, ints)) (omega (arith, ints)))
-    (bounded_between f.blocked (f.blocked -ℤ pos k) (f.blocked -ℤ pos k -ℤ pos k') hb.0 eb.0 (omega (arith, ints)) (omega (arith, ints)))
-    ht.0
-    (bounded_between (f.limit +ℤ f.third) ((f.limit -ℤ pos v) +ℤ f.third) ((f.limit -ℤ pos v -ℤ pos v') +ℤ f.third) hs.0 es.0 (omega (arith, ints)) (omega (arith, ints)))
-    hs.1
+    let p = parts f h in
+    let q = parts (paid_of (paid_of f v k) v' k') e in
+    whole (paid_of f v k)
+    (record {
+      limit = bounded_between f.limit (f.limit -ℤ pos v) (f.limit -ℤ pos v -ℤ pos v') p.limit q.limit (omega (arith, ints)) (omega (arith, ints));
+      blocked = bounded_between f.blocked (f.blocked -ℤ pos k) (f.blocked -ℤ pos k -ℤ pos k') p.blocked q.blocked (omega (arith, ints)) (omega (arith, ints));
+      third = p.third;
+      sum = bounded_between (f.limit +ℤ f.third) ((f.limit -ℤ pos v) +ℤ f.third) ((f.limit -ℤ pos v -ℤ pos v') +ℤ f.third) p.sum q.sum (omega (arith, ints)) (omega (arith, ints));
+      least = p.least;
+    })
 
 falls_by : (f : Figures) (v k v' k' : ℕ) (b : Bool) → in_range (paid_of (paid_of f v k) v' k') ≡ b → in_range f ≡ true → in_range (paid_of f v k) ≡ false → b ≡ false
 falls_by f v k v' k' false e h out = refl

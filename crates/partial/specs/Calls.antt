@@ -1,5 +1,5 @@
 -- What each call of Level Two does.
-use Rattle.std.specs.Prelude.{ℕ, Bool, if◌then◌else◌, ◌&&◌, ◌||◌, List, [], ◌∷◌, pos, ◌+ℤ◌, ◌-ℤ◌, int_le, int_lt, Some, Ok, Result, ◌==◌, slice_set}
+use Rattle.std.specs.Prelude.{ℕ, Bool, if◌then◌else◌, ◌&&◌, List, [], ◌∷◌, pos, ◌+ℤ◌, ◌-ℤ◌, int_le, int_lt, Some, Ok, Result, ◌==◌, slice_set}
 use Rattle.registers.specs.declared.figures.Figures.{Figures}
 use Rattle.registers.specs.declared.row.Row.{Row}
 use Rattle.registers.specs.declared.fault.StoreFault.TheVariants.{OutOfRange}
@@ -20,7 +20,7 @@ use Rattle.full.specs.Orders.{Live, admitted_as}
 use Rattle.full.specs.Blocks.{cash_key, holding_key, limit_key, participant_key}
 use Rattle.full.specs.declared.open_register.OpenRegister.{OpenRegister}
 use Rattle.full.specs.State.{with_last_trade, with_orders, with_rows}
-use Rattle.full.specs.Trades.{changes_of, in_order, lower_at, moved_all}
+use Rattle.full.specs.Trades.{changes_of, ends_in_range, in_order, lower_at, move_to, moved_all}
 use Rattle.full.specs.OpenRegisters.{paid_of, register_at, moving, rows_with, with_figures_of}
 use Rattle.full.specs.Calls as one
 use Rattle.full.specs.Trades as one_trades
@@ -74,20 +74,17 @@ drawing a b charge buy_block sell_block =
     let bought : Figures = paid_of a.figures charge buy_block in
     let start : Figures = if a.place == b.place then bought else b.figures in
     record {
-      buyer = record { place = a.place; before = a.figures; after = bought };
-      seller = record { place = b.place; before = start; after = paid_of start charge sell_block };
+      buyer = move_to a bought;
+      seller = move_to (with_figures_of b start) (paid_of start charge sell_block);
     }
-
--- whether each register ends in range: one register ends where the seller's move does
-abbrev pub ends_in_range : Drawn → Bool
-ends_in_range w = in_range w.seller.after && (w.buyer.place == w.seller.place || in_range w.buyer.after)
 
 -- 25 and 26, each over both
 unfoldable pub drawn_from : OpenRegister → OpenRegister → ℕ → ℕ → ℕ → Result Drawn Refusal
 drawn_from a b charge buy_block sell_block =
     demand (in_range a.figures && in_range b.figures) (Store OutOfRange)
-    (demand (ends_in_range (drawing a b charge buy_block sell_block)) LeavesRange
-    (Ok (drawing a b charge buy_block sell_block)))
+    (let w : Drawn = drawing a b charge buy_block sell_block in
+    demand (ends_in_range w.buyer w.seller) LeavesRange
+    (Ok w))
 
 -- the moves of a trade between two orders in partial mode, under the ratio in force: 6, 25, 26
 unfoldable pub drawn_of : List Row → PairOf → ℕ → Result Drawn Refusal

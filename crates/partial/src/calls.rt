@@ -8,7 +8,7 @@ ghost use Rattle.partial.specs.State.{down};
 ghost use Rattle.partial.specs.Calls.{announce_of, debit_of, open_of, partial_trade_of, post_of, trade_of};
 
 use crate::engine::Engine;
-use crate::limits::{cover, debit_on, limits_drawn, opening_ok, participant_ok, post_on};
+use crate::limits::{cover, debit_on, limit_opening_ok, limits_drawn, participant_ok, post_on};
 use crate::obligation::Obligation;
 use crate::stage::Stage;
 use full::announcement::Announcement;
@@ -20,7 +20,7 @@ use full::open_register::{open_register, put_register};
 use full::opening::Opening;
 use full::pair::Pair;
 use full::putting::put_moves;
-use full::ranges::amount as amount_of;
+use full::ranges::amount_of;
 use plans::refusal::Refusal;
 use registers::amounts::money;
 use registers::figures::Figures;
@@ -67,7 +67,7 @@ impl<S: Store> Engine<S> {
         if opening.kind != RegisterKind::Participant as u8 {
             return self.full.open(opening);
         }
-        if !opening_ok(opening) {
+        if !limit_opening_ok(opening) {
             return Err(Refusal::BadValue);
         }
         let limit = opening.limit as i64;
@@ -154,9 +154,9 @@ impl<S: Store> Engine<S> {
         Ok(money.into())
     }
 
-    /// Raises a participant's limit and collateral; answers the new limit. Refuses values outside their
-    /// ranges (5), a limit that is not open (6), figures out of range (25) and figures that would leave
-    /// it (26).
+    /// Raises a participant's limit and collateral by an amount in kopecks; answers the new limit. Refuses
+    /// values outside their ranges (5), a limit that is not open (6), figures out of range (25) and figures
+    /// that would leave it (26).
     #[tactic(auto, using(full::proofs::Signed::signed), unfolding(crate::specs::Calls::post_of))]
     pub fn post(&mut self, participant: u16, amount: u64) -> Result<i64, Refusal>
         ensures { Done S.Store.made (post_of self.old.state participant amount) self.old self.new result }
@@ -171,10 +171,10 @@ impl<S: Store> Engine<S> {
         Ok(raised.figures.limit)
     }
 
-    /// Lowers a participant's limit and collateral; answers the new limit. Refuses values outside their
-    /// ranges (5), a limit that is not open (6), figures out of range (25), an amount above the collateral
-    /// (20), a margin call (19) and an amount that leaves the limit no
-    /// higher than the blocked figure (21).
+    /// Lowers a participant's limit and collateral by an amount in kopecks; answers the new limit. Refuses
+    /// values outside their ranges (5), a limit that is not open (6), figures out of range (25), an amount
+    /// above the collateral (20), a margin call (19) and an amount that leaves the limit no higher than the
+    /// blocked figure (21).
     #[tactic(auto, using(full::proofs::Signed::signed), unfolding(crate::specs::Calls::debit_of))]
     pub fn debit(&mut self, participant: u16, amount: u64) -> Result<i64, Refusal>
         ensures { Done S.Store.made (debit_of self.old.state participant amount) self.old self.new result }

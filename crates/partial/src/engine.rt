@@ -9,7 +9,8 @@ use registers::store::Store;
 use std::marker::Model;
 
 /// The engine of Level Two: Level One's, and the obligations. Its parts are public for the level above;
-/// who embeds it uses the calls.
+/// who embeds it uses the calls. A call is refused by the first of its checks, in the order listed, that
+/// fails, and then changes nothing.
 #[derive(Drop)]
 pub struct Engine<S: Store> {
     pub full: full::engine::Engine<S>,

@@ -11,7 +11,7 @@ ghost use Rattle.full.specs.Blocks.{limit_key};
 
 use crate::drawn::Drawn;
 use full::keys::{cash_key, holding_key, limit_key, participant_key};
-use full::open_register::{OpenRegister, open_register, paid};
+use full::open_register::{OpenRegister, ask_open, open_register, paid};
 use full::opening::Opening;
 use full::order::Order;
 use full::pair::Pair;
@@ -43,8 +43,8 @@ pub(crate) fn cover<S: Store>(store: &mut S, order: Order) -> Result<OpenRegiste
     ensures stands { IfOk result (λ h. FiguresAt (S.Store.rows store.old) h.place h.figures) }
     ensures asked { OnlyAsked S.Store.rows S.Store.capacity S.Store.made store.old store.new }
 {
-    open_register(store, cash_key(order.account))?;
-    open_register(store, holding_key(order.account, order.security))?;
+    ask_open(store, cash_key(order.account))?;
+    ask_open(store, holding_key(order.account, order.security))?;
     open_register(store, participant_key(order.account))
 }
 
@@ -101,12 +101,15 @@ pub(crate) fn limits_drawn<S: Store>(
 
 /// Whether the arguments of an opening of kind 3 lie in their ranges.
 #[tactic(auto, unfolding(crate::specs::Calls::limit_opening_ok))]
-pub(crate) fn opening_ok(o: Opening) -> bool
-    ensures answer { result ≡ limit_opening_ok o }
-    ensures limit { result ≡ true → o.limit ≤ MOST_LIMIT }
-    ensures margin { result ≡ true → o.margin ≤ MOST_LIMIT }
+pub(crate) fn limit_opening_ok(opening: Opening) -> bool
+    ensures answer { result ≡ limit_opening_ok opening }
+    ensures limit { result ≡ true → opening.limit ≤ MOST_LIMIT }
+    ensures margin { result ≡ true → opening.margin ≤ MOST_LIMIT }
 {
-    o.security == 0 && participant_ok(o.code) && limit_ok(o.limit) && limit_ok(o.margin)
+    opening.security == 0
+        && participant_ok(opening.code)
+        && limit_ok(opening.limit)
+        && limit_ok(opening.margin)
 }
 
 /// Figures with limit and collateral raised by an amount.

@@ -3,9 +3,9 @@
 ghost use Rattle.std.specs.Prelude.{◌≡◌, ◌<◌, length, replicate, IfSome, Some, None, slice_set};
 ghost use Rattle.partial.specs.Obligations.{free_place, place_of_obligation};
 
+use crate::free::Free;
 use crate::obligation::Obligation;
 use crate::trade_number::TradeNumber;
-use crate::vacant::Vacant;
 
 /// How many obligations may stand.
 pub const MOST_OBLIGATIONS: usize = 128;
@@ -34,7 +34,7 @@ impl Obligations {
         ensures place { result ≡ free_place self.now.table }
         ensures within { IfSome result (λ i. i < length self.now.table) }
     {
-        seek::find(&self.table, Vacant)
+        seek::find(&self.table, Free)
     }
 
     /// The place of the obligation of a trade's number, or `None` where none stands.

@@ -1,5 +1,5 @@
 -- The promise gives the law, and holds of every prefix of a run.
-use Rattle.std.proofs.Common.{◌≡◌, ℕ, zero, suc, List, [], ◌++◌, map, replicate, ℤ, None, Result, refl, arith}
+use Rattle.std.proofs.Common.{◌≡◌, ℕ, List, [], ◌++◌, map, ℤ, Result, arith}
 use Rattle.registers.specs.declared.row.Row.{Row}
 use Rattle.plans.specs.declared.refusal.Refusal.{Refusal}
 use Rattle.plans.specs.Runs.{outcomes_of, state_after}
@@ -11,18 +11,11 @@ use Rattle.partial.specs.declared.call.Call.{Call}
 use Rattle.partial.specs.Plans.{call_of}
 use Rattle.partial_law.specs.Tally.{Tally, trade_number, empty, entered}
 use Rattle.partial_law.proofs.Owed.{all_differ}
-use Rattle.partial_law.specs.Law.{owed_under, places_under, Law}
+use Rattle.partial_law.specs.Law.{Law}
 use Rattle.partial.specs.declared.obligations.TheConstants.{MOST_OBLIGATIONS}
+use Rattle.partial_law.proofs.Places.{none_owed, none_places}
 use Rattle.partial_law.proofs.Promises.{Promise}
 use Rattle.partial_law.proofs.Calls.{call_keeps}
-
-none_owed : (n k : ℕ) → owed_under n (replicate k None) ≡ None
-none_owed n zero = refl
-none_owed n (suc k) = none_owed n k
-
-none_places : (n k : ℕ) → places_under n (replicate k None) ≡ 0
-none_places n zero = refl
-none_places n (suc k) = omega (arith, none_places n k)
 
 begin_keeps : (rows : List Row) (room : ℕ) (settings : Settings) → rows ≡ [] → Promise settings.reserve empty (begin rows room settings)
 begin_keeps rows room settings e = record { base = one_proofs.begin_keeps rows room settings e; owed = λ n. none_owed n MOST_OBLIGATIONS; once = λ n. omega (arith, none_places n MOST_OBLIGATIONS); falling = tt; fresh = tt }

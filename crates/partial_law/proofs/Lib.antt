@@ -3,3 +3,4 @@ pub mod Laws
 pub mod Promises
 pub mod Owed
 pub mod Parts
+pub mod Places

@@ -1,50 +1,17 @@
 -- The table of obligations, looked up by trade number, after one comes in.
-use Rattle.std.proofs.Common.{◌≡◌, ◌≢◌, ℕ, zero, suc, ◌+◌, ◌<◌, ◌≤◌, Bool, true, false, cond, eqb, List, [], ◌∷◌, map, length, get_or, set, Some, None, Option, is_none, sym, refl, ap, ◌∙◌, ⊎_elim, arith}
+use Rattle.std.proofs.Common.{◌≡◌, ◌≢◌, ℕ, ◌+◌, ◌<◌, ◌≤◌, Bool, true, false, cond, eqb, List, [], ◌∷◌, map, get_or, set, Some, None, Option, is_none, sym, refl, ap, ◌∙◌, ⊎_elim, arith}
 use Rattle.std.specs.List.{AllByRecursion, AllPairs}
 use Rattle.std.proofs.lemmas.List.Elements.{All-from_recursion}
 use Rattle.std.proofs.lemmas.List.Kept.{AllPairs-cons}
 use Rattle.std.proofs.lemmas.Bool.{cases_eq, eqb-true, eq-eqb, ne_eqb}
-use Rattle.seek.proofs.Cases.{no_case}
 use Rattle.full_law.specs.Lists.{find_by}
-use Rattle.full_law.proofs.Slots.{search_at}
+use Rattle.full_law.proofs.Slots.{one, search_at}
 use Rattle.partial.specs.declared.obligation.Obligation.{Obligation}
 use Rattle.partial.specs.Obligations.{has_number, free_place}
 use Rattle.partial_law.specs.Tally.{trade_number}
+use Rattle.partial_law.proofs.Places.{places_set, under_here, under_other, unowed, was_none}
 use Rattle.partial_law.proofs.Promises.{Falling}
 use Rattle.partial_law.specs.Law.{owed_under, places_under}
-
-module _ (n : ℕ) where
-  under_other : (os : List (Option Obligation)) (i : ℕ) (x : Option Obligation) → has_number n (get_or os i None) ≡ false → has_number n x ≡ false → owed_under n (set os i x) ≡ owed_under n os
-  under_other [] i x e f = refl
-  under_other (y ∷ os) zero x e f = rw (e, f)
-  under_other (y ∷ os) (suc i) x e f = ap (λ (z : Option Obligation). cond (has_number n y) y z) (under_other os i x e f)
-
-  off_by : (y rest : Option Obligation) (b : Bool) → has_number n y ≡ b → cond b y rest ≡ None → (b ≡ false) × (rest ≡ None)
-  off_by None rest true e f = no_case (cc)
-  off_by (Some o) rest true e f = no_case (cc)
-  off_by y rest false e f = (refl, f)
-
-  under_new : (os : List (Option Obligation)) (i : ℕ) (x : Option Obligation) → owed_under n os ≡ None → i < length os → has_number n x ≡ true → owed_under n (set os i x) ≡ x
-  under_new [] i x none h e = absurd (omega arith)
-  under_new (y ∷ os) zero x none h e = rw e
-  under_new (y ∷ os) (suc i) x none h e =
-      let o = off_by y (owed_under n os) (has_number n y) refl none in
-      rw o.0 (under_new os i x o.1 (omega arith) e)
-
-  -- how many places hold the number
-  count_by : (b c : Bool) (p q : ℕ) → q ≡ p + cond c 1 0 → cond b 1 0 + q ≡ cond b 1 0 + p + cond c 1 0
-  count_by b c p q e = omega arith
-
-  places_new : (os : List (Option Obligation)) (i : ℕ) (x : Option Obligation) → i < length os → has_number n (get_or os i None) ≡ false → places_under n (set os i x) ≡ places_under n os + cond (has_number n x) 1 0
-  places_new [] i x h e = absurd (omega arith)
-  places_new (y ∷ os) zero x h e = rw e (omega arith)
-  places_new (y ∷ os) (suc i) x h e = count_by (has_number n y) (has_number n x) (places_under n os) (places_under n (set os i x)) (places_new os i x (omega arith) e)
-
-  places_none : (os : List (Option Obligation)) → owed_under n os ≡ None → places_under n os ≡ 0
-  places_none [] e = refl
-  places_none (y ∷ os) e =
-      let o = off_by y (owed_under n os) (has_number n y) refl e in
-      rw o.0 (omega (arith, places_none os o.1))
 
 -- no obligation is noted above the last trade
 none_above : (n last : ℕ) (xs : List Obligation) → last < n → AllByRecursion (λ (o : Obligation). trade_number o ≤ last) xs → find_by trade_number n xs ≡ None
@@ -52,10 +19,6 @@ none_above n last [] l f = refl
 none_above n last (x ∷ xs) l f =
     let e : eqb n (trade_number x) ≡ false = ne_eqb n (trade_number x) (λ s. omega (arith, f.0)) in
     rw e (none_above n last xs l f.1)
-
-was_none : (x : Option Obligation) → is_none x ≡ true → x ≡ None
-was_none None e = refl
-was_none (Some o) e = no_case (cc)
 
 module _ (os : List (Option Obligation)) (xs : List Obligation) (last : ℕ) (fresh : AllByRecursion (λ (o : Obligation). trade_number o ≤ last) xs) (h : (n : ℕ) → owed_under n os ≡ find_by trade_number n xs) where
   pub owed_more : (o : Obligation) (i : ℕ) → last < o.number → free_place os ≡ Some i → (n : ℕ) → owed_under n (set os i (Some o)) ≡ find_by trade_number n (o ∷ xs)
@@ -66,7 +29,8 @@ module _ (os : List (Option Obligation)) (xs : List Obligation) (last : ℕ) (fr
       (λ e.
       let same : eqb o.number n ≡ true = eq-eqb o.number n (sym e) in
       let there : eqb n o.number ≡ true = eq-eqb n o.number e in
-      under_new n os i (Some o) (h n ∙ none_above n last xs (omega arith) fresh) (omega (arith, s.0)) same
+      under_here n os i (Some o) (omega (arith, unowed n os (h n ∙ none_above n last xs (omega arith) fresh))) s.0
+      ∙ ap (λ (b : Bool). cond b (Some o) None) same
       ∙ sym (ap (λ (b : Bool). cond b (Some o) (find_by trade_number n xs)) there))
       (λ ne.
       let off : eqb o.number n ≡ false = ne_eqb o.number n (λ e. ne (sym e)) in
@@ -75,7 +39,7 @@ module _ (os : List (Option Obligation)) (xs : List Obligation) (last : ℕ) (fr
       ∙ sym (ap (λ (b : Bool). cond b (Some o) (find_by trade_number n xs)) away))
       (cases_eq n o.number)
 
-  few_by : (b : Bool) (p q : ℕ) → q ≡ p + cond b 1 0 → (b ≡ true → p ≡ 0) → p ≤ 1 → q ≤ 1
+  few_by : (b : Bool) (p q : ℕ) → q ≡ p + one b → (b ≡ true → p ≡ 0) → p ≤ 1 → q ≤ 1
   few_by true p q e none l = omega (arith, none refl)
   few_by false p q e none l = omega arith
 
@@ -84,10 +48,10 @@ module _ (os : List (Option Obligation)) (xs : List Obligation) (last : ℕ) (fr
       let s = search_at is_none os i f in
       let free : get_or os i None ≡ None = was_none (get_or os i None) s.1 in
       few_by (eqb o.number n) (places_under n os) (places_under n (set os i (Some o)))
-      (places_new n os i (Some o) (omega (arith, s.0)) (ap (has_number n) free))
+      (omega (arith, places_set n os i (Some o) s.0, ap (λ (x : Option Obligation). one (has_number n x)) free))
       (λ e.
       let same : o.number ≡ n = eqb-true o.number n e in
-      places_none n os (h n ∙ none_above n last xs (omega arith) fresh))
+      unowed n os (h n ∙ none_above n last xs (omega arith) fresh))
       (once n)
 
 -- the number of a trade above the last comes in front of the others

@@ -1,7 +1,5 @@
 -- A trade between two orders in partial mode keeps Level One's promise, of its registers, its book and its tally.
-use Rattle.std.proofs.Common.{◌≡◌, ℕ, ◌-◌, Bool, true, false, cond, eqb, List, [], ◌∷◌, ◌++◌, pos, ◌-ℤ◌, Some, Ok, sym, refl, ap, ◌∙◌, subst}
-use Rattle.std.proofs.lemmas.Bool.{eqb-true, eqb-false}
-use Rattle.std.specs.List.{slice_get}
+use Rattle.std.proofs.Common.{◌≡◌, ℕ, ◌-◌, true, false, cond, eqb, List, [], ◌∷◌, ◌++◌, pos, ◌-ℤ◌, Ok, sym, refl, ap, ◌∙◌, subst}
 use Rattle.seek.proofs.Cases.{no_case}
 use Rattle.registers.specs.declared.key.Key.{Key}
 use Rattle.registers.specs.declared.figures.Figures.{Figures}
@@ -28,7 +26,6 @@ use Rattle.full_law.proofs.Promises.{Books, Promise, base_of, slack_of}
 use Rattle.full_law.proofs.Dealt.{Halves, halves}
 use Rattle.full_law.proofs.Fairness.{Covers}
 use Rattle.full_law.proofs.Moves.{freed_books}
-use Rattle.full_law.proofs.Rows.{put_nth, put_other}
 use Rattle.full_law.proofs.Steps.{Open, open_at}
 use Rattle.full_law.proofs.Trades.{Matched, traded_blocks, leaving_apart, leaving_here, slack_grows}
 use Rattle.full_law.proofs.Units.{left_over}
@@ -36,6 +33,7 @@ use Rattle.full_law.proofs.Withdraws.{blocks_apart}
 use Rattle.partial.specs.declared.drawn.Drawn.{Drawn}
 use Rattle.partial.specs.Calls.{drawn_of}
 use Rattle.partial.proofs.Draws.{drawn_is}
+use Rattle.full.proofs.Follows.{after_put}
 
 -- modes, keys and blocks
 pub key_partial : (m : Mode) (sd : Side) (ac se : ℕ) → m ≡ Partial → participant_key ac ≡ block_key m sd ac se
@@ -57,18 +55,15 @@ both_partial Full n e f = no_case (cc)
 both_partial Partial Full e f = no_case (cc)
 both_partial Partial Partial e f = refl
 
--- a register after a put at a place, which may be its own
-after_put : (rows : List Row) (k l : Key) (a b : OpenRegister) (f : Figures) (same : Bool) → eqb a.place b.place ≡ same → Open rows k a → Open rows l b → Open (put_row rows a.place f) l (record { place = b.place; figures = cond same f b.figures })
-after_put rows k l a b f true e x y =
-    let i : a.place ≡ b.place = eqb-true a.place b.place e in
+-- an open register after a put at a place, which may be its own
+open_after_put : (rows : List Row) (k : Key) (b : OpenRegister) (i : ℕ) (f : Figures) → Open rows k b → Open (put_row rows i f) k (record { place = b.place; figures = cond (eqb i b.place) f b.figures })
+open_after_put rows k b i f o =
     record {
-      row = with_figures y.row f;
-      at = subst (λ (j : ℕ). slice_get (put_row rows j f) b.place ≡ Some (with_figures y.row f)) (sym i) (put_nth rows b.place f y.row y.at);
-      key = y.key;
-      figures = refl;
+      row = with_figures o.row (cond (eqb i b.place) f o.row.figures);
+      at = after_put rows i b.place f o.row o.at;
+      key = o.key;
+      figures = ap (cond (eqb i b.place) f) o.figures;
     }
-after_put rows k l a b f false e x y =
-    record { row = y.row; at = put_other rows a.place b.place f (eqb-false a.place b.place e) ∙ y.at; key = y.key; figures = y.figures }
 
 module _ (reserve : ℕ) (t : Tally) (s : State) (h : Promise reserve t s) (d : Deal) (p : PairOf) (mp : Matched s.orders s.last_trade d p) (partly : is_full p.buy.mode ≡ false) where
   hv : Halves t s d p
@@ -86,11 +81,11 @@ module _ (reserve : ℕ) (t : Tally) (s : State) (h : Promise reserve t s) (d : 
   abbrev notes2 : List Note
   notes2 = replace_by number (with_traded p.quantity y) notes1
 
-  abbrev times1 : List Key
-  times1 = trade_leaving_rest (with_traded p.quantity x) ++ t.trades_leaving_rest
+  abbrev leaving1 : List Key
+  leaving1 = trade_leaving_rest (with_traded p.quantity x) ++ t.trades_leaving_rest
 
-  abbrev times2 : List Key
-  times2 = trade_leaving_rest (with_traded p.quantity y) ++ times1
+  abbrev leaving2 : List Key
+  leaving2 = trade_leaving_rest (with_traded p.quantity y) ++ leaving1
 
   buy_mode : x.order.mode ≡ Partial
   buy_mode = sym (ap (λ (o : Live). o.mode) hv.buy.is) ∙ is_partial p.buy.mode partly
@@ -136,28 +131,28 @@ module _ (reserve : ℕ) (t : Tally) (s : State) (h : Promise reserve t s) (d : 
     buyer_open = open_at s.rows (participant_key p.buy.account) a ea
 
     seller_open : Open rows1 (participant_key p.sell.account) again
-    seller_open = after_put s.rows (participant_key p.buy.account) (participant_key p.sell.account) a b bought (eqb a.place b.place) refl buyer_open (open_at s.rows (participant_key p.sell.account) b eb)
+    seller_open = open_after_put s.rows (participant_key p.sell.account) b a.place bought (open_at s.rows (participant_key p.sell.account) b eb)
 
-    books1 : Books reserve t.opened notes1 times1 rows1
+    books1 : Books reserve t.opened notes1 leaving1 rows1
     unfolding paid_of
     books1 =
         let o = traded_blocks t.notes d.buy x hv.buy.at_n p.quantity hv.buy.whole hv.buy.rest in
         freed_books reserve t.opened t.notes t.trades_leaving_rest s.rows h.books (register_of x) a (subst (λ (k : Key). Open s.rows k a) buy_key buyer_open)
-        buy_freed value (slack_of (register_of x) (left_over (rest_of x - p.quantity))) notes1 times1
+        buy_freed value (slack_of (register_of x) (left_over (rest_of x - p.quantity))) notes1 leaving1
         (λ opening. subst (λ (k : Key). Covers (base_of k opening reserve) value buy_freed) buy_key tt)
         (λ j off. (blocks_apart t.notes d.buy x (with_traded p.quantity x) hv.buy.at_n hv.buy.numbered refl j off, leaving_apart x p.quantity hv.buy.whole hv.buy.rest t.trades_leaving_rest j off))
         (ap (slack_of (register_of x)) (leaving_here x p.quantity hv.buy.whole hv.buy.rest t.trades_leaving_rest) ∙ slack_grows (register_of x) _ _)
         o.most o.least bought refl (ap (λ (u : ℕ). a.figures.blocked -ℤ pos u) buy_freed_lem)
 
-    books2 : Books reserve t.opened notes2 times2 (put_row rows1 b.place sold)
+    books2 : Books reserve t.opened notes2 leaving2 (put_row rows1 b.place sold)
     unfolding paid_of
     books2 =
         let o = traded_blocks notes1 d.sell y hv.sell_noted p.quantity hv.sell.whole hv.sell.rest in
-        freed_books reserve t.opened notes1 times1 rows1 books1 (register_of y) again (subst (λ (k : Key). Open rows1 k again) sell_key seller_open)
-        sell_freed value (slack_of (register_of y) (left_over (rest_of y - p.quantity))) notes2 times2
+        freed_books reserve t.opened notes1 leaving1 rows1 books1 (register_of y) again (subst (λ (k : Key). Open rows1 k again) sell_key seller_open)
+        sell_freed value (slack_of (register_of y) (left_over (rest_of y - p.quantity))) notes2 leaving2
         (λ opening. subst (λ (k : Key). Covers (base_of k opening reserve) value sell_freed) sell_key tt)
-        (λ j off. (blocks_apart notes1 d.sell y (with_traded p.quantity y) hv.sell_noted hv.sell.numbered refl j off, leaving_apart y p.quantity hv.sell.whole hv.sell.rest times1 j off))
-        (ap (slack_of (register_of y)) (leaving_here y p.quantity hv.sell.whole hv.sell.rest times1) ∙ slack_grows (register_of y) _ _)
+        (λ j off. (blocks_apart notes1 d.sell y (with_traded p.quantity y) hv.sell_noted hv.sell.numbered refl j off, leaving_apart y p.quantity hv.sell.whole hv.sell.rest leaving1 j off))
+        (ap (slack_of (register_of y)) (leaving_here y p.quantity hv.sell.whole hv.sell.rest leaving1) ∙ slack_grows (register_of y) _ _)
         o.most o.least sold refl (ap (λ (u : ℕ). again.figures.blocked -ℤ pos u) sell_freed_lem)
 
   -- the state that a trade in partial mode leaves below
@@ -175,5 +170,5 @@ module _ (reserve : ℕ) (t : Tally) (s : State) (h : Promise reserve t s) (d : 
         reserved = h.reserved;
         ratios = h.ratios;
         orders = hv.orders;
-        books = subst (λ (z : Drawn). Books reserve t.opened notes2 times2 (moved_all s.rows (z.buyer ∷ z.seller ∷ []))) is (books2 k a.0 b.0 a.1.0 b.1.0);
+        books = subst (λ (z : Drawn). Books reserve t.opened notes2 leaving2 (moved_all s.rows (z.buyer ∷ z.seller ∷ []))) is (books2 k a.0 b.0 a.1.0 b.1.0);
       })

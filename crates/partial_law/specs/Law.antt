@@ -1,6 +1,6 @@
 -- The law over whole runs of Level Two.
-use Rattle.std.specs.Prelude.{◌≡◌, ◌≢◌, ◌≤◌, ℕ, if◌then◌else◌, List, [], ◌∷◌, map, AllPairs, None, Option}
-use Rattle.full_law.specs.Lists.{find_by, total}
+use Rattle.std.specs.Prelude.{◌≡◌, ◌≢◌, ◌≤◌, ℕ, List, map, AllPairs, count_by, Option}
+use Rattle.full_law.specs.Lists.{find_by, held_by}
 use Rattle.full_law.specs.Law as one
 use Rattle.partial.specs.declared.obligation.Obligation.{Obligation}
 use Rattle.partial.specs.Obligations.{has_number}
@@ -9,11 +9,10 @@ use Rattle.partial_law.specs.Tally.{Tally, trade_number}
 
 -- the obligation that a table holds under a trade's number, and how many places hold one
 abbrev pub owed_under : ℕ → List (Option Obligation) → Option Obligation
-owed_under n [] = None
-owed_under n (x ∷ os) = if has_number n x then x else owed_under n os
+owed_under n os = held_by (has_number n) os
 
 abbrev pub places_under : ℕ → List (Option Obligation) → ℕ
-places_under n os = total (λ o. if has_number n o then 1 else 0) os
+places_under n os = count_by (has_number n) os
 
 -- the law: that of Level One, of the registers of participants too, and that the obligations are those noted, with
 -- both legs owed, each in one place

@@ -26,14 +26,14 @@ empty = record { base = one.empty; obligations = [] }
 
 -- what a trade between two noted orders leaves owed: in partial mode the seller's account the quantity, the
 -- buyer's the money at the trade's price
-abbrev pub owed_in : Mode → one.Note → one.Note → Deal → List Obligation
-owed_in modes.Full x y d = []
-owed_in modes.Partial x y d = record { number = d.number; seller = y.order.account; buyer = x.order.account; security = x.order.security; quantity = d.quantity; money = money_of d.quantity d.price; stage = BothOwed } ∷ []
+abbrev pub owed_after : Mode → one.Note → one.Note → Deal → List Obligation
+owed_after modes.Full x y d = []
+owed_after modes.Partial x y d = record { number = d.number; seller = y.order.account; buyer = x.order.account; security = x.order.security; quantity = d.quantity; money = money_of d.quantity d.price; stage = BothOwed } ∷ []
 
 abbrev pub owed_by : Option one.Note → Option one.Note → Deal → List Obligation
 owed_by None y d = []
 owed_by (Some x) None d = []
-owed_by (Some x) (Some y) d = owed_in x.order.mode x y d
+owed_by (Some x) (Some y) d = owed_after x.order.mode x y d
 
 abbrev pub owing : one.Tally → one_call.Call → List Obligation
 owing t (one_calls.Admit security ratio) = []

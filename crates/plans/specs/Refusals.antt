@@ -2,7 +2,7 @@
 use Rattle.std.specs.Prelude.{ℕ, List, ◌++◌, codes, decimal, encode_utf8}
 use Rattle.registers.specs.Registers.{fault_number}
 use Rattle.plans.specs.declared.refusal.Refusal.{Refusal}
-use Rattle.plans.specs.declared.refusal.Refusal.TheVariants.{RegisterOpen, SecurityAdmitted, SecuritiesFull, BadValue, NotAdmitted, OrderNumber, OrdersFull, NotCovered, NoOrder, TradeNumber, WrongSide, Mismatch, SameAccount, AboveRest, PriceOutside, ObligationsFull, MarginCall, AboveCollateral, NotSpared, NoObligation, LegSettled, ThirdBelow, LeavesRange, Store}
+use Rattle.plans.specs.declared.refusal.Refusal.TheVariants.{RegisterOpen, SecurityAdmitted, SecuritiesFull, BadValue, NotAdmitted, OrderNumberNotAbove, OrdersFull, NotCovered, NoOrder, TradeNumberNotAbove, WrongSide, Mismatch, SameAccount, AboveRest, PriceOutside, ObligationsFull, MarginCall, AboveCollateral, NotSpared, NoObligation, LegSettled, ThirdBelow, LeavesRange, Store}
 use Rattle.plans.specs.declared.layer.Layer.{Layer}
 use Rattle.plans.specs.declared.layer.Layer.TheVariants as layers
 
@@ -12,11 +12,11 @@ number_of SecurityAdmitted = 3
 number_of SecuritiesFull = 4
 number_of BadValue = 5
 number_of NotAdmitted = 7
-number_of OrderNumber = 8
+number_of OrderNumberNotAbove = 8
 number_of OrdersFull = 9
 number_of NotCovered = 10
 number_of NoOrder = 11
-number_of TradeNumber = 12
+number_of TradeNumberNotAbove = 12
 number_of WrongSide = 13
 number_of Mismatch = 14
 number_of SameAccount = 15
@@ -39,11 +39,11 @@ layer_of SecurityAdmitted = layers.Engine
 layer_of SecuritiesFull = layers.Engine
 layer_of BadValue = layers.Engine
 layer_of NotAdmitted = layers.Engine
-layer_of OrderNumber = layers.Engine
+layer_of OrderNumberNotAbove = layers.Engine
 layer_of OrdersFull = layers.Engine
 layer_of NotCovered = layers.Engine
 layer_of NoOrder = layers.Engine
-layer_of TradeNumber = layers.Engine
+layer_of TradeNumberNotAbove = layers.Engine
 layer_of WrongSide = layers.Engine
 layer_of Mismatch = layers.Engine
 layer_of SameAccount = layers.Engine

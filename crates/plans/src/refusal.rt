@@ -24,7 +24,7 @@ pub enum Refusal {
     /// The security is not admitted.
     NotAdmitted,
     /// The order number is not above the last.
-    OrderNumber,
+    OrderNumberNotAbove,
     /// As many orders live as there is room for.
     OrdersFull,
     /// The order is not covered.
@@ -32,7 +32,7 @@ pub enum Refusal {
     /// There is no such live order.
     NoOrder,
     /// The trade number is not above the last.
-    TradeNumber,
+    TradeNumberNotAbove,
     /// The first order is no buy, or the second no sell.
     WrongSide,
     /// The orders differ in security or mode.
@@ -83,11 +83,11 @@ impl Refusal {
             Refusal::SecuritiesFull => 4,
             Refusal::BadValue => 5,
             Refusal::NotAdmitted => 7,
-            Refusal::OrderNumber => 8,
+            Refusal::OrderNumberNotAbove => 8,
             Refusal::OrdersFull => 9,
             Refusal::NotCovered => 10,
             Refusal::NoOrder => 11,
-            Refusal::TradeNumber => 12,
+            Refusal::TradeNumberNotAbove => 12,
             Refusal::WrongSide => 13,
             Refusal::Mismatch => 14,
             Refusal::SameAccount => 15,

@@ -1,5 +1,5 @@
 -- Rows that are swept one after the other.
-use Rattle.std.proofs.Common.{◌≡◌, ℕ, zero, suc, ◌+◌, ◌<◌, ◌≤◌, Bool, true, false, cond, ◌&&◌, List, [], ◌∷◌, ◌++◌, map, length, get_or, take, Some, None, Ok, Err, length-take, sym, refl, ap, ◌∙◌, arith}
+use Rattle.std.proofs.Common.{◌≡◌, ℕ, zero, suc, ◌+◌, ◌<◌, ◌≤◌, Bool, true, false, cond, ◌&&◌, List, [], ◌∷◌, ◌++◌, map, length, get_or, take, Some, None, Option, Ok, Err, length-take, sym, refl, ap, ◌∙◌, arith}
 use Rattle.std.specs.List.{list_all, slice_get}
 use Rattle.std.specs.Option.{option_map}
 use Rattle.std.proofs.Math.Bool.{and-false}
@@ -70,12 +70,18 @@ stays rs i r e n =
 pub put_sweeps : (rs : List Row) (i : ℕ) (r : Row) → slice_get rs i ≡ Some r → returns r ≡ true → put_changes rs i (returned r.figures) ≡ sweeping i r
 put_sweeps rs i r e n = rw (lt-ltb i (length rs) (slice_get_within rs i r e), n) refl
 
+-- the row that stands at a place within the rows
+read_at : (rs : List Row) (i : ℕ) (r : Row) → slice_get rs i ≡ Some r → (i < length rs) × (get_or rs i r ≡ r)
+read_at rs i r e =
+    let l = slice_get_within rs i r e in
+    let x : Some (get_or rs i r) ≡ Some r = sym (slice_get-get_or rs i r l) ∙ e in
+    (l, cc)
+
 -- whether every row may be swept, one row after the other
 pub fine_more : (rs : List Row) (i : ℕ) (r : Row) → slice_get rs i ≡ Some r → may_sweep r ≡ true → list_all may_sweep (take i rs) ≡ true → list_all may_sweep (take (i + 1) rs) ≡ true
 fine_more rs i r e f h =
-    let l = slice_get_within rs i r e in
-    let g : get_or rs i r ≡ r = let x : Some (get_or rs i r) ≡ Some r = sym (slice_get-get_or rs i r l) ∙ e in cc in
-    list_all_more may_sweep rs i r l ∙ ap (λ (b : Bool). b && may_sweep (get_or rs i r)) h ∙ ap may_sweep g ∙ f
+    let a = read_at rs i r e in
+    list_all_more may_sweep rs i r a.0 ∙ ap (λ (b : Bool). b && may_sweep (get_or rs i r)) h ∙ ap may_sweep a.1 ∙ f
 
 pub fine_not : (rs : List Row) (i : ℕ) (r : Row) → slice_get rs i ≡ Some r → may_sweep r ≡ false → list_all may_sweep rs ≡ false
 fine_not [] i r e f = no_case (cc)
@@ -86,6 +92,14 @@ pub fine_at : (rs : List Row) (i : ℕ) (r : Row) (b : Bool) → may_sweep r ≡
 fine_at rs i r true f h e = refl
 fine_at rs i r false f h e = no_case (let g = fine_not rs i r e f in cc)
 
+-- the row that is read at a place, where the rows stand as before the sweep, or are swept up to that place
+pub read_same : (rs now : List Row) (i : ℕ) (r : Row) (read : Option Row) → now ≡ rs → read ≡ slice_get now i → read ≡ Some r → slice_get rs i ≡ Some r
+read_same rs now i r read e f g = ap (λ (xs : List Row). slice_get xs i) (sym e) ∙ sym f ∙ g
+
+pub read_swept : (rs now : List Row) (i : ℕ) (r : Row) (read : Option Row) → now ≡ swept_to i rs → read ≡ slice_get now i → read ≡ Some r → slice_get rs i ≡ Some r
+read_swept rs now i r read e f g = sym (next_stands i rs) ∙ read_same (swept_to i rs) now i r read e f g
+
+-- at each place within the rows a row stands
 pub not_absent : (rs : List Row) (i : ℕ) → i < length rs → slice_get rs i ≡ None → ⊥
 not_absent [] i l e = omega arith
 not_absent (x ∷ rs) zero l e = no_case (cc)
@@ -103,17 +117,15 @@ refused false e f h = refl
 -- changes and count, one row more
 pub changes_more : (rs : List Row) (i : ℕ) (r : Row) → slice_get rs i ≡ Some r → sweeps_from 0 (take (i + 1) rs) ≡ sweeps_from 0 (take i rs) ++ sweeping i r
 changes_more rs i r e =
-    let l = slice_get_within rs i r e in
-    let g : get_or rs i r ≡ r = let x : Some (get_or rs i r) ≡ Some r = sym (slice_get-get_or rs i r l) ∙ e in cc in
-    ap (sweeps_from 0) (take_more rs i r l ∙ ap (λ (x : Row). take i rs ++ x ∷ []) g)
+    let a = read_at rs i r e in
+    ap (sweeps_from 0) (take_more rs i r a.0 ∙ ap (λ (x : Row). take i rs ++ x ∷ []) a.1)
     ∙ sweeps_more 0 (take i rs) r
-    ∙ ap (λ (k : ℕ). sweeps_from 0 (take i rs) ++ sweeping k r) (omega (arith, length-take i rs))
+    ∙ ap (λ (k : ℕ). sweeps_from 0 (take i rs) ++ sweeping k r) (omega (arith, a.0, length-take i rs))
 
 pub count_more : (rs : List Row) (i : ℕ) (r : Row) → slice_get rs i ≡ Some r → count_returning (take (i + 1) rs) ≡ count_returning (take i rs) + cond (returns r) 1 0
 count_more rs i r e =
-    let l = slice_get_within rs i r e in
-    let g : get_or rs i r ≡ r = let x : Some (get_or rs i r) ≡ Some r = sym (slice_get-get_or rs i r l) ∙ e in cc in
-    sum_by_more (λ (x : Row). cond (returns x) 1 0) rs i r l ∙ ap (λ (x : Row). count_returning (take i rs) + cond (returns x) 1 0) g
+    let a = read_at rs i r e in
+    sum_by_more (λ (x : Row). cond (returns x) 1 0) rs i r a.0 ∙ ap (λ (x : Row). count_returning (take i rs) + cond (returns x) 1 0) a.1
 
 pub few_more : (b : Bool) → cond b 1 0 ≤ 1
 few_more true = omega arith

@@ -1,11 +1,10 @@
 -- A third figure that is lowered by no more than it holds stays in range.
 use Rattle.std.proofs.Common.{◌≡◌, ℕ, true, pos, ◌+ℤ◌, ◌-ℤ◌, ◌≤ℤ◌, refl, arith}
 use lib.Signed.{le_z}
-use Rattle.std.proofs.lemmas.Bool.{and_parts}
 use Rattle.std.proofs.lemmas.Int.{ints, to_z_pos}
 use Rattle.registers.specs.declared.figures.Figures.{Figures}
 use Rattle.registers.specs.Registers.{bounded, in_range}
-use Rattle.partial.proofs.Falls.{le_holds, bounded_between, all_true}
+use Rattle.partial.proofs.Falls.{le_holds, bounded_between, parts, whole}
 use Rattle.pool.specs.Calls.{third_lowered}
 
 -- 0 and a limit are in bounds
@@ -14,19 +13,18 @@ unfolding bounded
 nothing_bounded = refl
 
 pub thirds : (f : Figures) (m : ℕ) → in_range f ≡ true → le_z (pos m) f.third ≡ true → in_range (third_lowered f m) ≡ true
-unfolding in_range third_lowered
+unfolding third_lowered
 thirds f m h e =
-    let hl = and_parts (bounded f.limit) _ h in
-    let hb = and_parts (bounded f.blocked) _ hl.1 in
-    let ht = and_parts (bounded f.third) _ hb.1 in
-    let hs = and_parts (bounded (f.limit +ℤ f.third)) _ ht.1 in
+    let p = parts f h in
     let left : pos 0 ≤ℤ (f.third -ℤ pos m) = omega (arith, ints, e) in
-    all_true _ _ _ _ _
-    hl.0
-    hb.0
-    (bounded_between f.third (f.third -ℤ pos m) (pos 0) ht.0 nothing_bounded left (omega (arith, ints)))
-    (bounded_between (f.limit +ℤ f.third) (f.limit +ℤ (f.third -ℤ pos m)) f.limit hs.0 hl.0 (omega (arith, ints)) (omega (arith, ints)))
-    (le_holds (pos 0) (f.third -ℤ pos m) left)
+    whole (third_lowered f m)
+    (record {
+      limit = p.limit;
+      blocked = p.blocked;
+      third = bounded_between f.third (f.third -ℤ pos m) (pos 0) p.third nothing_bounded left (omega (arith, ints));
+      sum = bounded_between (f.limit +ℤ f.third) (f.limit +ℤ (f.third -ℤ pos m)) f.limit p.sum p.limit (omega (arith, ints)) (omega (arith, ints));
+      least = le_holds (pos 0) (f.third -ℤ pos m) left;
+    })
 
 -- a count that is read as a signed number
 pub ruleset counted = (to_z_pos)

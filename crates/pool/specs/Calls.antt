@@ -1,5 +1,5 @@
 -- What each call of Level Three does.
-use Rattle.std.specs.Prelude.{ℕ, suc, Bool, if◌then◌else◌, not, ◌&&◌, ◌||◌, List, [], ◌∷◌, ◌++◌, map, ℤ, pos, ◌+ℤ◌, ◌-ℤ◌, int_le, int_lt, None, Some, Ok, Err, Option, Result, ◌==◌, slice_index_or, slice_set, sum_by}
+use Rattle.std.specs.Prelude.{ℕ, suc, Bool, if◌then◌else◌, not, ◌&&◌, ◌||◌, List, [], ◌∷◌, ◌++◌, map, ℤ, pos, ◌+ℤ◌, ◌-ℤ◌, int_le, int_lt, None, Ok, Option, Result, ◌==◌, slice_index_or, slice_set, sum_by}
 use Rattle.std.specs.List.{list_all}
 use Rattle.std.specs.Ordering.{int_eq}
 use Rattle.registers.specs.declared.figures.Figures.{Figures}
@@ -11,23 +11,24 @@ use Rattle.registers.specs.Registers.{in_range, kind_number}
 use Rattle.registers.specs.Stores.{put_row, with_figures}
 use Rattle.plans.specs.declared.refusal.Refusal.{Refusal}
 use Rattle.plans.specs.declared.refusal.Refusal.TheVariants.{BadValue, LeavesRange, NoObligation, Store, ThirdBelow}
-use Rattle.plans.specs.Steps.{and_then, demand}
+use Rattle.plans.specs.Steps.{and_then, demand, or_refuse}
+use Rattle.full.specs.declared.asset.Asset.{Asset}
 use Rattle.full.specs.declared.open_register.OpenRegister.{OpenRegister}
-use Rattle.full.specs.OpenRegisters.{moving, register_at}
+use Rattle.full.specs.Assets.{asset_key, asset_named}
+use Rattle.full.specs.OpenRegisters.{floor_of, moving, register_at, with_figures_of}
 use Rattle.full.specs.State.{with_rows}
-use Rattle.full.specs.Terms.{code_ok, security_ok}
-use Rattle.full.specs.Trades.{changes_of, in_order, moved_all}
+use Rattle.full.specs.Terms.{asset_ok}
+use Rattle.full.specs.Trades.{changes_of, ends_in_range, in_order, move_to, moved_all}
 use Rattle.partial.specs.declared.obligation.Obligation.{Obligation}
 use Rattle.partial.specs.Obligations.{place_of_obligation}
 use Rattle.partial.specs.State.{with_base}
-use Rattle.pool.specs.declared.asset.Asset.{Asset}
 use Rattle.pool.specs.declared.debt.Debt.{Debt}
 use Rattle.pool.specs.declared.earmark.Earmark.{Earmark}
 use Rattle.pool.specs.declared.leg.Leg.{Leg}
 use Rattle.pool.specs.declared.leg.Leg.TheVariants.{Money, Securities}
 use Rattle.pool.specs.declared.passing.Passed.{Passed}
 use Rattle.pool.specs.declared.placed_obligation.PlacedObligation.{PlacedObligation}
-use Rattle.pool.specs.Debts.{asset_floor, asset_key, asset_named, debt_of, owed_over}
+use Rattle.pool.specs.Debts.{debt_of, owed_over}
 use Rattle.pool.specs.Stages.{settled}
 use Rattle.pool.specs.State.{State, Step}
 
@@ -64,8 +65,8 @@ earmark_at rs account asset owed floor =
 -- earmark: 5, 6, 25, 26; answers the amount moved, or 0
 unfoldable pub earmark_of : State → ℕ → ℕ → Step
 earmark_of s code security =
-    demand (code_ok code && (security == 0 || security_ok security)) BadValue
-    (and_then (earmark_at s.base.rows code (asset_named security) (owed_over code (asset_named security) s.obligations) (asset_floor (asset_named security) s.base.settings.reserve)) (λ e.
+    demand (asset_ok code security) BadValue
+    (and_then (earmark_at s.base.rows code (asset_named security) (owed_over code (asset_named security) s.obligations) (floor_of s.base.settings.reserve (asset_key (asset_named security) code))) (λ e.
     Ok (record {
       answer = e.amount;
       changes = moving e.register.place e.register.figures e.after;
@@ -86,21 +87,18 @@ passing a b m =
     let given : Figures = third_lowered a.figures m in
     let start : Figures = if a.place == b.place then given else b.figures in
     record {
-      debtor = record { place = a.place; before = a.figures; after = given };
-      creditor = record { place = b.place; before = start; after = third_raised start m };
+      debtor = move_to a given;
+      creditor = move_to (with_figures_of b start) (third_raised start m);
     }
-
--- whether each register ends in range: one register ends where the creditor's move does
-abbrev pub ends_in_range : Passed → Bool
-ends_in_range w = in_range w.creditor.after && (w.debtor.place == w.creditor.place || in_range w.debtor.after)
 
 -- 25 over both, 24 of the debtor's, 26 over both
 unfoldable pub passed_from : OpenRegister → OpenRegister → ℕ → Result Passed Refusal
 passed_from a b m =
     demand (in_range a.figures && in_range b.figures) (Store OutOfRange)
     (demand (int_le (pos m) a.figures.third) ThirdBelow
-    (demand (ends_in_range (passing a b m)) LeavesRange
-    (Ok (passing a b m))))
+    (let w : Passed = passing a b m in
+    demand (ends_in_range w.debtor w.creditor) LeavesRange
+    (Ok w)))
 
 -- 6 over both, and then as above
 unfoldable pub passed_of : List Row → Debt → Result Passed Refusal
@@ -110,16 +108,11 @@ passed_of rs d =
     passed_from a b d.amount))
 
 -- the obligation of a trade's number, with its place
-abbrev pub found_in : ℕ → Option Obligation → Result PlacedObligation Refusal
-found_in i None = Err NoObligation
-found_in i (Some o) = Ok (record { place = i; obligation = o })
-
-abbrev pub found_from : List (Option Obligation) → Option ℕ → Result PlacedObligation Refusal
-found_from os None = Err NoObligation
-found_from os (Some i) = found_in i (slice_index_or os i None)
-
 unfoldable pub found_of : List (Option Obligation) → ℕ → Result PlacedObligation Refusal
-found_of os n = found_from os (place_of_obligation n os)
+found_of os n =
+    and_then (or_refuse (place_of_obligation n os) NoObligation) (λ i.
+    and_then (or_refuse (slice_index_or os i None) NoObligation) (λ o.
+    Ok (record { place = i; obligation = o })))
 
 -- a leg is settled: 22, 23, 6, 25, 24, 26; answers the amount. After its second leg the obligation leaves the table.
 unfoldable pub settle_of : State → Leg → ℕ → Step
@@ -148,7 +141,7 @@ is_pooled r = r.key.kind == kind_number Cash || r.key.kind == kind_number Holdin
 
 -- the third figure joins the limit
 unfoldable pub returned : Figures → Figures
-returned f = record { limit = f.limit +ℤ f.third; blocked = f.blocked; third = pos 0 }
+returned f = record f { limit = f.limit +ℤ f.third; third = pos 0 }
 
 -- whether a row has a third figure to return, and what close leaves of it
 abbrev pub returns : Row → Bool

@@ -7,7 +7,6 @@ ghost use Rattle.partial.specs.State.{down};
 ghost use Rattle.partial.specs.Calls.{announce_of, debit_of, open_of, post_of, trade_of};
 ghost use Rattle.pool.specs.Calls.{close_of, deliver_of, earmark_of, pay_of, settle_of};
 
-use crate::asset::Asset;
 use crate::debt::Debt;
 use crate::earmark::earmark_at;
 use crate::engine::Engine;
@@ -19,12 +18,14 @@ use crate::settle::Settle;
 use crate::sweep::{all_may_sweep, sweep_all};
 use crate::ticket::{Collecting, Ending};
 use full::announcement::Announcement;
+use full::asset::Asset;
 use full::deal::Deal;
+use full::keys::floor;
 use full::moves::Moves;
 use full::open_register::put_register;
 use full::opening::Opening;
 use full::putting::put_moves;
-use full::ranges::{code_ok, security_ok};
+use full::ranges::asset_ok;
 use plans::refusal::Refusal;
 use registers::store::Store;
 
@@ -103,12 +104,12 @@ impl<S: Store> Engine<S> {
     ) -> Result<i64, Refusal>
         ensures { Done S.Store.made (earmark_of self.old.state code security) self.old self.new result }
     {
-        if !code_ok(code) || security != 0 && !security_ok(security) {
+        if !asset_ok(code, security) {
             return Err(Refusal::BadValue);
         }
         let asset = Asset::named(security);
         let owed = owed_over(&self.partial.obligations.table, code, asset);
-        let floor = asset.floor(self.partial.full.settings.reserve);
+        let floor = floor(self.partial.full.settings.reserve, asset.key(code));
         let earmark = earmark_at(&mut self.partial.full.store, code, asset, owed, floor)?;
         put_register(
             &mut self.partial.full.store,

@@ -3,8 +3,8 @@
 ghost use Rattle.std.specs.Prelude.{◌≡◌};
 ghost use Rattle.pool.specs.Debts.{debt_of};
 
-use crate::asset::Asset;
 use crate::leg::Leg;
+use full::asset::Asset;
 use partial::obligation::Obligation;
 
 /// What one account owes another: an amount of an asset, in kopecks or in pieces.

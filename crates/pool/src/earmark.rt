@@ -1,12 +1,12 @@
 //! What an account earmarks.
 
-ghost use Rattle.std.specs.Prelude.{◌≡◌, ◌<◌, ◌^◌, pos, ◌≤ℤ◌, IfOk};
+ghost use Rattle.std.specs.Prelude.{◌≡◌, ◌≤◌, pos, ◌≤ℤ◌, IfOk};
 ghost use Rattle.registers.specs.Changes.{OnlyAsked};
 ghost use Rattle.full.specs.OpenRegisters.{FiguresAt};
 ghost use Rattle.pool.specs.Calls.{earmarked, earmark_at};
 
-use crate::asset::Asset;
-use crate::need::{MOST_FREE, earmarked_amount};
+use crate::need::{MOST_FREE_OF_LIMIT, MOST_OWED, earmarked_amount};
+use full::asset::Asset;
 use full::open_register::{OpenRegister, open_register};
 use plans::refusal::Refusal;
 use registers::figures::Figures;
@@ -26,7 +26,7 @@ pub struct Earmark {
 #[tactic(auto, using(full::proofs::Signed::signed), unfolding(crate::specs::Calls::earmarked))]
 fn earmarked(f: InRange, amount: i64) -> Figures
     requires least { pos 0 ≤ℤ amount }
-    requires most { amount ≤ℤ MOST_FREE }
+    requires most { amount ≤ℤ MOST_FREE_OF_LIMIT }
     ensures { result ≡ earmarked f.figures amount }
 {
     Figures {
@@ -47,7 +47,7 @@ pub(crate) fn earmark_at<S: Store>(
     owed: u128,
     floor: u16,
 ) -> Result<Earmark, Refusal>
-    requires { owed < 2 ^ 72 }
+    requires { owed ≤ MOST_OWED }
     ensures answer { result ≡ earmark_at (S.Store.rows store.old) account asset owed floor }
     ensures stands { IfOk result (λ e.
         FiguresAt (S.Store.rows store.old) e.register.place e.register.figures) }

@@ -8,7 +8,8 @@ use registers::store::Store;
 use std::marker::Model;
 
 /// The engine of Level Three: Level Two's, with the calls of the clearing pool. Tickets are held beside it.
-/// Its part is public for whoever builds on it; who embeds it uses the calls.
+/// Its part is public for whoever builds on it; who embeds it uses the calls. A call is refused by the first
+/// of its checks, in the order listed, that fails, and then changes nothing.
 #[derive(Drop)]
 pub struct Engine<S: Store> {
     pub partial: partial::engine::Engine<S>,

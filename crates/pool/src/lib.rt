@@ -1,7 +1,6 @@
 //! Level Three: the clearing pool, on the engine of Level Two.
 #![tactic(auto)]
 
-pub mod asset;
 pub mod call;
 pub mod calls;
 pub mod debt;

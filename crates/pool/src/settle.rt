@@ -30,7 +30,7 @@ pub trait Settle: Sized {
         ensures { result ≡ owes self leg };
 }
 
-fn at(obligation: Obligation, stage: Stage) -> Obligation
+fn with_stage(obligation: Obligation, stage: Stage) -> Obligation
     ensures { result ≡ with_stage obligation stage }
 {
     Obligation {
@@ -46,8 +46,8 @@ impl Settle for Obligation {
 
     fn settle(self, leg: Leg) -> Result<Option<Obligation>, Refusal> {
         match (self.stage, leg) {
-            (Stage::BothOwed, Leg::Securities) => Ok(Some(at(self, Stage::MoneyOwed))),
-            (Stage::BothOwed, Leg::Money) => Ok(Some(at(self, Stage::SecuritiesOwed))),
+            (Stage::BothOwed, Leg::Securities) => Ok(Some(with_stage(self, Stage::MoneyOwed))),
+            (Stage::BothOwed, Leg::Money) => Ok(Some(with_stage(self, Stage::SecuritiesOwed))),
             (Stage::MoneyOwed, Leg::Money) | (Stage::SecuritiesOwed, Leg::Securities) => Ok(None),
             (Stage::MoneyOwed, Leg::Securities) | (Stage::SecuritiesOwed, Leg::Money) => {
                 Err(Refusal::LegSettled)

@@ -38,8 +38,8 @@ fn returned(f: InRange) -> Figures
 {
     Figures {
         limit: f.figures.limit + f.figures.third,
-        blocked: f.figures.blocked,
         third: 0,
+        ..f.figures
     }
 }
 

@@ -1,7 +1,8 @@
 //! Tickets of a pool: whoever settles one holds a ticket, and gives it up to close the pool.
 //!
 //! Neither is `Drop`, `Copy` or `Clone`, and the number is private: a ticket is made by forming a pool
-//! alone, is shown or passed on, and ends only where a pool is closed. No ticket is tied to one engine.
+//! alone, is shown or passed on, and ends only where a pool is closed. No ticket is tied to one engine. Both
+//! types stand in this file because the one hands its number to the other, and no other file may read it.
 
 /// The ticket of a pool that collects: it is shown to earmark. Ending collection turns it into an
 /// `Ending`.

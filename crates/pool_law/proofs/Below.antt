@@ -12,26 +12,26 @@ use Rattle.full.specs.Blocks.{limit_key}
 use Rattle.full.specs.Terms.{amount_ok}
 use Rattle.full_law.specs.Lists.{find_by}
 use Rattle.full_law.proofs.Promises as one_promise
-use Rattle.full_law.proofs.Slots.{one}
+use Rattle.full_law.proofs.Slots.{one, count_cons}
 use Rattle.partial.specs.declared.call.Call.{Call}
 use Rattle.partial.specs.declared.call.Call.TheVariants.{Full, Post, Debit}
 use Rattle.partial.specs.declared.obligation.Obligation.{Obligation}
 use Rattle.partial.specs.declared.stage.Stage.TheVariants.{BothOwed}
 use Rattle.partial.specs.Calls.{announce_of, cover_at, debit_of, debit_on, drawn_of, limit_opening_ok, open_of, owed_of, partial_trade_of, participant_ok, post_of, post_on, ratio_for, trade_of}
-use Rattle.partial.specs.Obligations.{free_place}
+use Rattle.partial.specs.Obligations.{free_place, has_number}
 use Rattle.partial.specs.Plans.{call_of}
 use Rattle.partial.specs.State.{State, down}
 use Rattle.partial_law.specs.Law.{owed_under, places_under}
 use Rattle.partial_law.specs.Tally as two
 use Rattle.partial_law.specs.Tally.{trade_number}
 use Rattle.partial_law.proofs.Calls as two_proofs
+use Rattle.partial_law.proofs.Places.{unplaced}
 use Rattle.partial_law.proofs.Promises as two_promise
 use Rattle.partial_law.proofs.Promises.{Falling}
 use Rattle.plans.proofs.Keeping.{Keeps}
-use Rattle.pool_law.specs.Tally.{Tally}
+use Rattle.pool_law.specs.Tally.{Tally, numbers_settled}
 use Rattle.pool_law.proofs.Beside.{Beside, beside_demand, beside_choice, beside_step, beside_there, beside_keeps}
 use Rattle.pool_law.proofs.Legs.{legs_among, legs_entered}
-use Rattle.pool_law.proofs.Places.{unplaced}
 use Rattle.pool_law.proofs.Promises.{Legs, Promise}
 
 -- the table in which obligations are owed in full, and a place is free
@@ -45,7 +45,7 @@ owed_full n (x ∷ xs) = let h = owed_full n xs in grind (arith, nat_tests, h)
 -- numbers that fall are each in one place
 none_below : (n : ℕ) (xs : List Obligation) → AllByRecursion (λ (m : ℕ). m < n) (map trade_number xs) → places_under n (map Some xs) ≡ 0
 none_below n [] a = refl
-none_below n (x ∷ xs) a = omega (arith, none_below n xs a.1, ap one (ne_eqb x.number n (λ e. omega (arith, a.0))))
+none_below n (x ∷ xs) a = omega (arith, count_cons (has_number n) (Some x) (map Some xs), none_below n xs a.1, ap one (ne_eqb x.number n (λ e. omega (arith, a.0))))
 
 once_by : (n : ℕ) (x : Obligation) (xs : List Obligation) (b : Bool) → eqb x.number n ≡ b → AllByRecursion (λ (m : ℕ). m < x.number) (map trade_number xs) → places_under n (map Some xs) ≤ 1 → one b + places_under n (map Some xs) ≤ 1
 once_by n x xs true e a h = omega (arith, none_below x.number xs a, ap (λ (k : ℕ). places_under k (map Some xs)) (eqb-true x.number n e))
@@ -53,7 +53,7 @@ once_by n x xs false e a h = omega (arith, h)
 
 once_full : (n : ℕ) (xs : List Obligation) → Falling (map trade_number xs) → places_under n (map Some xs) ≤ 1
 once_full n [] f = omega arith
-once_full n (x ∷ xs) f = once_by n x xs (eqb x.number n) refl f.0 (once_full n xs f.1)
+once_full n (x ∷ xs) f = omega (arith, count_cons (has_number n) (Some x) (map Some xs), once_by n x xs (eqb x.number n) refl f.0 (once_full n xs f.1))
 
 -- x is left of s, and y of v, by calls that do the same: to Level One's state, and to the table, into which an
 -- obligation may come with both legs owed, in v in the first place
@@ -130,15 +130,16 @@ module _ (reserve : ℕ) (t : Tally) (s : State) (h : Promise reserve t s) where
 
   -- what is noted now is what the full table holds
   module _ (u : two.Tally) (x y : State) (p : two_promise.Promise reserve u y) where
-    legs_by : ((x.obligations ≡ s.obligations) × (y.obligations ≡ in_full xs)) ⊎ Entered s.obligations (in_full xs) x.obligations y.obligations → Legs t.deliveries t.payments u.obligations x.obligations
+    legs_by : ((x.obligations ≡ s.obligations) × (y.obligations ≡ in_full xs)) ⊎ Entered s.obligations (in_full xs) x.obligations y.obligations → Legs (numbers_settled t) u.obligations x.obligations
     legs_by (inl e) =
-        subst (Legs t.deliveries t.payments u.obligations) (sym e.0)
-        (legs_among t.deliveries t.payments xs u.obligations s.obligations
+        subst (Legs (numbers_settled t) u.obligations) (sym e.0)
+        (legs_among (numbers_settled t) xs u.obligations s.obligations
         (λ n. sym (p.owed n) ∙ ap (owed_under n) e.1 ∙ owed_full n xs) h.legs)
     legs_by (inr e) =
-        let few : places_under e.obligation.number (map Some xs) ≡ 0 = omega (arith, p.once e.obligation.number, ap (places_under e.obligation.number) e.other, ap one (eq-eqb e.obligation.number e.obligation.number refl)) in
-        subst (Legs t.deliveries t.payments u.obligations) (sym e.left)
-        (legs_entered t.deliveries t.payments xs u.obligations s.obligations h.legs e.obligation e.place e.free e.both
+        let c = count_cons (has_number e.obligation.number) (Some e.obligation) (map Some xs) in
+        let few : places_under e.obligation.number (map Some xs) ≡ 0 = omega (arith, c, p.once e.obligation.number, ap (places_under e.obligation.number) e.other, ap one (eq-eqb e.obligation.number e.obligation.number refl)) in
+        subst (Legs (numbers_settled t) u.obligations) (sym e.left)
+        (legs_entered (numbers_settled t) xs u.obligations s.obligations h.legs e.obligation e.place e.free e.both
         (sym (owed_full e.obligation.number xs) ∙ unplaced e.obligation.number (map Some xs) few)
         (λ n. sym (p.owed n) ∙ ap (owed_under n) e.other ∙ ap (cond (eqb e.obligation.number n) (Some e.obligation)) (owed_full n xs)))
 

@@ -1,5 +1,5 @@
 -- Every call keeps the promise, and the promise gives the law.
-use Rattle.std.proofs.Common.{◌≡◌, ℕ, zero, suc, ◌+◌, ◌<◌, ◌≤◌, Bool, false, cond, eqb, List, [], ◌∷◌, ◌++◌, map, replicate, ℤ, Some, None, Result, refl, ap, ◌∙◌, arith}
+use Rattle.std.proofs.Common.{◌≡◌, ℕ, zero, suc, ◌+◌, ◌<◌, ◌≤◌, Bool, false, cond, eqb, List, [], ◌∷◌, ◌++◌, map, ℤ, Some, Result, sym, refl, ap, ◌∙◌, subst, arith}
 use Rattle.std.specs.List.{AllByRecursion}
 use Rattle.std.proofs.lemmas.Bool.{eq-eqb, ne_eqb}
 use Rattle.std.proofs.lemmas.List.Elements.{All-from_recursion}
@@ -14,9 +14,10 @@ use Rattle.full_law.proofs.Laws as one_proofs
 use Rattle.partial.specs.declared.obligation.Obligation.{Obligation}
 use Rattle.partial.specs.declared.obligations.TheConstants.{MOST_OBLIGATIONS}
 use Rattle.partial.specs.State.{begin}
-use Rattle.partial_law.specs.Law.{owed_under, places_under}
+use Rattle.partial_law.specs.Law.{owed_under}
 use Rattle.partial_law.specs.Tally.{trade_number}
 use Rattle.partial_law.proofs.Owed.{all_differ}
+use Rattle.partial_law.proofs.Places.{none_owed, none_places}
 use Rattle.partial_law.proofs.Promises.{Falling}
 use Rattle.pool.specs.declared.call.Call.{Call}
 use Rattle.pool.specs.declared.call.Call.TheVariants.{Partial, Earmark, Deliver, Pay, Close}
@@ -24,11 +25,12 @@ use Rattle.pool.specs.declared.leg.Leg.{Leg}
 use Rattle.pool.specs.declared.leg.Leg.TheVariants.{Securities, Money}
 use Rattle.pool.specs.Plans.{call_of}
 use Rattle.pool.specs.State.{State}
-use Rattle.pool_law.specs.Law.{Law, left_of, times, times_owed, times_settled}
-use Rattle.pool_law.specs.Tally.{Tally, empty, entered}
+use Rattle.pool_law.specs.Law.{Law, left_of, times_owed, times_settled}
+use Rattle.pool_law.specs.Tally.{Tally, empty, entered, numbers_settled}
 use Rattle.pool_law.proofs.Below.{below_keeps}
+use Rattle.pool_law.proofs.Legs.{count, count_is}
 use Rattle.pool_law.proofs.Pools.{earmark_keeps, settle_keeps, close_keeps}
-use Rattle.pool_law.proofs.Promises.{Promise}
+use Rattle.pool_law.proofs.Promises.{Promise, Settled}
 
 -- one case for each call
 pub call_keeps : (reserve : ℕ) (t : Tally) (s : State) (h : Promise reserve t s) (c : Call) → Keeps (Promise reserve (entered t c)) (call_of s c)
@@ -39,13 +41,9 @@ call_keeps reserve t s h (Pay number) = settle_keeps reserve t s h Money number
 call_keeps reserve t s h Close = close_keeps reserve t s h
 
 -- a new engine over an empty store
-none_owed : (n k : ℕ) → owed_under n (replicate k None) ≡ None
-none_owed n zero = refl
-none_owed n (suc k) = none_owed n k
-
-none_places : (n k : ℕ) → places_under n (replicate k None) ≡ 0
-none_places n zero = refl
-none_places n (suc k) = omega (arith, none_places n k)
+none_settled : (leg : Leg) → numbers_settled empty leg ≡ []
+none_settled Securities = refl
+none_settled Money = refl
 
 begin_keeps : (rows : List Row) (room : ℕ) (settings : Settings) → rows ≡ [] → Promise settings.reserve empty (begin rows room settings)
 begin_keeps rows room settings e =
@@ -56,8 +54,7 @@ begin_keeps rows room settings e =
       legs = record {
         owed = λ n. none_owed n MOST_OBLIGATIONS;
         once = λ n. omega (arith, none_places n MOST_OBLIGATIONS);
-        delivered = record { once = λ n. omega arith; noted = λ n e. refl };
-        paid = record { once = λ n. omega arith; noted = λ n e. refl };
+        settled = λ leg. subst (Settled []) (sym (none_settled leg)) (record { once = λ n. omega arith; noted = λ n e. refl });
       };
     }
 
@@ -73,36 +70,25 @@ each_found [] f = tt
 each_found (z ∷ zs) f = (ap (λ (b : Bool). cond b (Some z) (find_by trade_number z.number zs)) (eq-eqb z.number z.number refl), found_behind z zs zs f.0 (each_found zs f.1))
 
 -- a leg is owed where its count is 0, and its count is 1 where it is not owed
-securities_once : (d p : ℕ) (o : Obligation) → d ≤ 1 → times_owed Securities (left_of d p (Some o)) + d ≡ 1
-securities_once zero zero o h = refl
-securities_once zero (suc p) o h = refl
-securities_once (suc d) zero o h = omega arith
-securities_once (suc d) (suc p) o h = omega arith
-
-money_once : (d p : ℕ) (o : Obligation) → p ≤ 1 → times_owed Money (left_of d p (Some o)) + p ≡ 1
-money_once zero zero o h = refl
-money_once (suc d) zero o h = refl
-money_once zero (suc p) o h = omega arith
-money_once (suc d) (suc p) o h = omega arith
+owed_or_settled : (leg : Leg) (d p c : ℕ) (o : Obligation) → count leg d p ≡ c → c ≤ 1 → times_owed leg (left_of d p (Some o)) + c ≡ 1
+owed_or_settled Securities zero zero c o e h = omega arith
+owed_or_settled Securities zero (suc p) c o e h = omega arith
+owed_or_settled Securities (suc d) zero c o e h = omega arith
+owed_or_settled Securities (suc d) (suc p) c o e h = omega arith
+owed_or_settled Money zero zero c o e h = omega arith
+owed_or_settled Money zero (suc p) c o e h = omega arith
+owed_or_settled Money (suc d) zero c o e h = omega arith
+owed_or_settled Money (suc d) (suc p) c o e h = omega arith
 
 module _ (reserve : ℕ) (t : Tally) (s : State) (h : Promise reserve t s) where
   leg_once : (x : Obligation) → find_by trade_number x.number t.base.obligations ≡ Some x → (leg : Leg) → times_owed leg (owed_under x.number s.obligations) + times_settled t leg x.number ≡ 1
-  leg_once x f leg = by leg
-    where
-      left : owed_under x.number s.obligations ≡ left_of (times x.number t.deliveries) (times x.number t.payments) (Some x)
-      left = h.legs.owed x.number ∙ ap (left_of (times x.number t.deliveries) (times x.number t.payments)) f
-
-      by : (leg : Leg) → times_owed leg (owed_under x.number s.obligations) + times_settled t leg x.number ≡ 1
-      by Securities = rw left (securities_once _ _ x (h.legs.delivered.once x.number))
-      by Money = rw left (money_once _ _ x (h.legs.paid.once x.number))
+  leg_once x f leg =
+      let left : owed_under x.number s.obligations ≡ left_of (times_settled t Securities x.number) (times_settled t Money x.number) (Some x) = h.legs.owed x.number ∙ ap (left_of (times_settled t Securities x.number) (times_settled t Money x.number)) f in
+      rw left (owed_or_settled leg _ _ _ x (count_is leg (λ l. times_settled t l x.number)) ((h.legs.settled leg).once x.number))
 
   each_leg : (xs : List Obligation) → AllByRecursion (λ (x : Obligation). find_by trade_number x.number t.base.obligations ≡ Some x) xs → AllByRecursion (λ (x : Obligation). (leg : Leg) → times_owed leg (owed_under x.number s.obligations) + times_settled t leg x.number ≡ 1) xs
   each_leg [] f = tt
   each_leg (x ∷ xs) f = (leg_once x f.0, each_leg xs f.1)
-
-  not_noted : (n : ℕ) (leg : Leg) → find_by trade_number n t.base.obligations ≡ None → times_settled t leg n ≡ 0
-  not_noted n Securities e = h.legs.delivered.noted n e
-  not_noted n Money e = h.legs.paid.noted n e
 
   promised : Law reserve t s
   promised =
@@ -110,7 +96,7 @@ module _ (reserve : ℕ) (t : Tally) (s : State) (h : Promise reserve t s) where
         base = one_proofs.promised reserve t.base.base s.base h.base;
         numbers = all_differ (map trade_number t.base.obligations) h.falling;
         legs = All-from_recursion _ t.base.obligations (each_leg t.base.obligations (each_found t.base.obligations h.falling));
-        nothing_else = not_noted;
+        nothing_else = λ n leg e. (h.legs.settled leg).noted n e;
         owed = h.legs.owed;
         owed_once = h.legs.once;
       }

@@ -4,61 +4,66 @@ use Rattle.std.proofs.Common.{◌≡◌, ℕ, zero, suc, ◌+◌, ◌<◌, ◌�
 use Rattle.std.proofs.lemmas.Bool.{eqb-true, eq-eqb}
 use Rattle.seek.proofs.Cases.{no_case}
 use Rattle.plans.specs.declared.refusal.Refusal.{Refusal}
+use Rattle.plans.proofs.Passes.{of_ok}
 use Rattle.full_law.specs.Lists.{find_by}
-use Rattle.full_law.proofs.Slots.{one, search_at}
+use Rattle.full_law.proofs.Slots.{one, count_cons, search_at}
+use Rattle.full_law.proofs.Steps.{stepped_there}
 use Rattle.partial.specs.declared.obligation.Obligation.{Obligation}
 use Rattle.partial.specs.declared.stage.Stage.{Stage}
 use Rattle.partial.specs.declared.stage.Stage.TheVariants.{BothOwed, MoneyOwed, SecuritiesOwed}
 use Rattle.partial.specs.Obligations.{has_number, free_place, place_of_obligation}
 use Rattle.partial_law.specs.Law.{owed_under, places_under}
 use Rattle.partial_law.specs.Tally.{trade_number}
+use Rattle.partial_law.proofs.Places.{off, places_set, under_here, under_other, found_under, unowed, was_none}
 use Rattle.pool.specs.declared.leg.Leg.{Leg}
 use Rattle.pool.specs.declared.leg.Leg.TheVariants.{Securities, Money}
 use Rattle.pool.specs.declared.placed_obligation.PlacedObligation.{PlacedObligation}
-use Rattle.pool.specs.Calls.{found_in, found_from, found_of}
+use Rattle.pool.specs.Calls.{found_of}
 use Rattle.pool.specs.Stages.{settled, staged, stage_after, with_stage}
 use Rattle.plans.specs.Steps.{ok_as}
 use Rattle.pool_law.specs.Law.{left_of, times}
-use Rattle.pool_law.proofs.Places.{off, places_set, under_here, under_other, found_under, unowed}
+use Rattle.pool_law.specs.Tally.{Tally, numbers_settled}
 use Rattle.pool_law.proofs.Promises.{Legs, Settled}
 
 -- the noted obligations come to others, under whose numbers nothing is missing that was there
 settled_among : (xs ys : List Obligation) (ns : List ℕ) → ((n : ℕ) → find_by trade_number n ys ≡ None → find_by trade_number n xs ≡ None) → Settled xs ns → Settled ys ns
 settled_among xs ys ns f s = record { once = s.once; noted = λ n e. s.noted n (f n e) }
 
-pub legs_among : (ds ps : List ℕ) (xs ys : List Obligation) (os : List (Option Obligation)) → ((n : ℕ) → find_by trade_number n ys ≡ find_by trade_number n xs) → Legs ds ps xs os → Legs ds ps ys os
-legs_among ds ps xs ys os f h =
+pub legs_among : (numbers : Leg → List ℕ) (xs ys : List Obligation) (os : List (Option Obligation)) → ((n : ℕ) → find_by trade_number n ys ≡ find_by trade_number n xs) → Legs numbers xs os → Legs numbers ys os
+legs_among numbers xs ys os f h =
     record {
-      owed = λ n. h.owed n ∙ ap (left_of (times n ds) (times n ps)) (sym (f n));
+      owed = λ n. h.owed n ∙ ap (left_of (times n (numbers Securities)) (times n (numbers Money))) (sym (f n));
       once = h.once;
-      delivered = settled_among xs ys ds (λ n e. sym (f n) ∙ e) h.delivered;
-      paid = settled_among xs ys ps (λ n e. sym (f n) ∙ e) h.paid;
+      settled = λ leg. settled_among xs ys (numbers leg) (λ n e. sym (f n) ∙ e) (h.settled leg);
     }
 
+-- what is left, by counts that are the same
+left_same : (d e p q : ℕ) (x : Option Obligation) → d ≡ e → p ≡ q → left_of d p x ≡ left_of e q x
+left_same d e p q x f g = cc
+
 -- an obligation of a new number comes into a free place, with both legs owed
-module _ (ds ps : List ℕ) (xs ys : List Obligation) (os : List (Option Obligation)) (h : Legs ds ps xs os) (o : Obligation) (i : ℕ)
+module _ (numbers : Leg → List ℕ) (xs ys : List Obligation) (os : List (Option Obligation)) (h : Legs numbers xs os) (o : Obligation) (i : ℕ)
     (fi : free_place os ≡ Some i) (both : o.stage ≡ BothOwed) (new : find_by trade_number o.number xs ≡ None)
     (f : (n : ℕ) → find_by trade_number n ys ≡ cond (eqb o.number n) (Some o) (find_by trade_number n xs)) where
-  was_none : (x : Option Obligation) → is_none x ≡ true → x ≡ None
-  was_none None e = refl
-  was_none (Some p) e = no_case (cc)
-
   within : i < length os
   within = (search_at is_none os i fi).0
 
   free : get_or os i None ≡ None
   free = was_none (get_or os i None) (search_at is_none os i fi).1
 
-  nowhere : places_under o.number os ≡ 0
-  nowhere = unowed o.number os (h.owed o.number ∙ ap (left_of (times o.number ds) (times o.number ps)) new)
+  abbrev left_with : ℕ → Option Obligation → Option Obligation
+  left_with n = left_of (times n (numbers Securities)) (times n (numbers Money))
 
-  owed_by : (n : ℕ) (b : Bool) → eqb o.number n ≡ b → owed_under n (set os i (Some o)) ≡ left_of (times n ds) (times n ps) (cond b (Some o) (find_by trade_number n xs))
+  nowhere : places_under o.number os ≡ 0
+  nowhere = unowed o.number os (h.owed o.number ∙ ap (left_with o.number) new)
+
+  owed_by : (n : ℕ) (b : Bool) → eqb o.number n ≡ b → owed_under n (set os i (Some o)) ≡ left_with n (cond b (Some o) (find_by trade_number n xs))
   owed_by n true e =
-      subst (λ (m : ℕ). owed_under m (set os i (Some o)) ≡ left_of (times m ds) (times m ps) (Some o)) (eqb-true o.number n e)
+      subst (λ (m : ℕ). owed_under m (set os i (Some o)) ≡ left_with m (Some o)) (eqb-true o.number n e)
       (under_here o.number os i (Some o) (omega (arith, nowhere)) within
       ∙ ap (λ (b : Bool). cond b (Some o) None) (eq-eqb o.number o.number refl)
       ∙ ap (λ (s : Stage). Some (with_stage o s)) both
-      ∙ sym (ap (λ (d : ℕ). left_of d (times o.number ps) (Some o)) (h.delivered.noted o.number new) ∙ ap (λ (p : ℕ). left_of 0 p (Some o)) (h.paid.noted o.number new)))
+      ∙ left_same 0 _ 0 _ (Some o) (sym ((h.settled Securities).noted o.number new)) (sym ((h.settled Money).noted o.number new)))
   owed_by n false e = under_other n os i (Some o) (ap (has_number n) free) e ∙ h.owed n
 
   once_by : (n : ℕ) (b : Bool) → eqb o.number n ≡ b → places_under n (set os i (Some o)) ≡ places_under n os + one b → places_under n (set os i (Some o)) ≤ 1
@@ -72,13 +77,12 @@ module _ (ds ps : List ℕ) (xs ys : List Obligation) (os : List (Option Obligat
   still_none n true e = no_case (cc)
   still_none n false e = e
 
-  pub legs_entered : Legs ds ps ys (set os i (Some o))
+  pub legs_entered : Legs numbers ys (set os i (Some o))
   legs_entered =
       record {
-        owed = λ n. owed_by n (eqb o.number n) refl ∙ ap (left_of (times n ds) (times n ps)) (sym (f n));
+        owed = λ n. owed_by n (eqb o.number n) refl ∙ ap (left_with n) (sym (f n));
         once = λ n. once_by n (eqb o.number n) refl (counted n);
-        delivered = settled_among xs ys ds (λ n e. still_none n (eqb o.number n) (sym (f n) ∙ e)) h.delivered;
-        paid = settled_among xs ys ps (λ n e. still_none n (eqb o.number n) (sym (f n) ∙ e)) h.paid;
+        settled = λ leg. settled_among xs ys (numbers leg) (λ n e. still_none n (eqb o.number n) (sym (f n) ∙ e)) (h.settled leg);
       }
 
 -- a found obligation: its place holds it, under its number
@@ -89,36 +93,52 @@ pub record Found (os : List (Option Obligation)) (n : ℕ) (f : PlacedObligation
   pub under : owed_under n os ≡ Some f.obligation
 
 module _ (os : List (Option Obligation)) (n : ℕ) (f : PlacedObligation) (once : places_under n os ≤ 1) where
-  found_at : (i : ℕ) (x : Option Obligation) → place_of_obligation n os ≡ Some i → get_or os i None ≡ x → found_in i x ≡ Ok f → Found os n f
-  found_at i None p e g = no_case (cc)
-  found_at i (Some o) p e g =
+  found_at : (i : ℕ) (o : Obligation) → place_of_obligation n os ≡ Some i → get_or os i None ≡ Some o → ◌≡◌ {A = PlacedObligation} (record { place = i; obligation = o }) f → Found os n f
+  found_at i o p e s =
       let a = search_at (has_number n) os i p in
-      let s : ◌≡◌ {A = PlacedObligation} (record { place = i; obligation = o }) f = cc in
-      let h : get_or os i None ≡ Some o = e in
-      subst (Found os n) s (record { within = a.0; holds = h; bears = eqb-true o.number n (ap (has_number n) (sym h) ∙ a.1); under = found_under n os i once p ∙ h })
-
-  found_by : (x : Option ℕ) → place_of_obligation n os ≡ x → found_from os x ≡ Ok f → Found os n f
-  found_by None p g = no_case (cc)
-  found_by (Some i) p g = found_at i (get_or os i None) p refl g
+      subst (Found os n) s (record { within = a.0; holds = e; bears = eqb-true o.number n (ap (has_number n) (sym e) ∙ a.1); under = found_under n os i once p ∙ e })
 
   pub found_held : found_of os n ≡ Ok f → Found os n f
   unfolding found_of
-  found_held e = found_by (place_of_obligation n os) refl e
+  found_held e =
+      let i = stepped_there (place_of_obligation n os) _ _ f e in
+      let o = stepped_there (get_or os i.0 None) _ _ f i.1.1 in
+      found_at i.0 o.0 i.1.0 o.1.0 (of_ok o.1.1)
 
--- the counts once a leg is settled, and the count of the leg
-abbrev more : Leg → Leg → ℕ → ℕ
-more Securities Securities n = suc n
-more Securities Money n = n
-more Money Securities n = n
-more Money Money n = suc n
+-- whether a leg is the one that is settled
+abbrev is_leg : Leg → Leg → Bool
+is_leg Securities Securities = true
+is_leg Securities Money = false
+is_leg Money Securities = false
+is_leg Money Money = true
 
-abbrev count : Leg → ℕ → ℕ → ℕ
+is_leg_lem : (l leg : Leg) → is_leg l leg ≡ true → l ≡ leg
+is_leg_lem Securities Securities e = refl
+is_leg_lem Securities Money e = no_case (cc)
+is_leg_lem Money Securities e = no_case (cc)
+is_leg_lem Money Money e = refl
+
+-- the count of a leg, of both
+abbrev pub count : Leg → ℕ → ℕ → ℕ
 count Securities d p = d
 count Money d p = p
 
+pub count_is : (leg : Leg) (f : Leg → ℕ) → count leg (f Securities) (f Money) ≡ f leg
+count_is Securities f = refl
+count_is Money f = refl
+
+-- a leg's count and its numbers, where it is the leg that is settled, and where it is not
+abbrev more : Bool → ℕ → ℕ
+more true k = suc k
+more false k = k
+
+abbrev joined : Bool → ℕ → List ℕ → List ℕ
+joined true n ns = n ∷ ns
+joined false n ns = ns
+
 -- a leg that may be settled was not settled before, and what is left of its obligation is what the counts say then
 abbrev SettledNow : Leg → ℕ → ℕ → Option Obligation → Option Obligation → Type 0
-SettledNow leg d p x left = (count leg d p ≡ 0) × (left_of (more leg Securities d) (more leg Money p) x ≡ left)
+SettledNow leg d p x left = (count leg d p ≡ 0) × (left_of (more (is_leg Securities leg) d) (more (is_leg Money leg) p) x ≡ left)
 
 ok_same : (x y : Option Obligation) → ◌≡◌ {A = Result (Option Obligation) Refusal} (Ok x) (Ok y) → x ≡ y
 ok_same x y e = cc
@@ -162,70 +182,51 @@ staged_on : (o : Obligation) (st : Option Stage) → cond (has_number o.number (
 staged_on o None = refl
 staged_on o (Some st) = ap (λ (b : Bool). cond b (Some (with_stage o st)) None) (eq-eqb o.number o.number refl)
 
--- the lists once a leg is settled
-abbrev pub deliveries_with : Leg → ℕ → List ℕ → List ℕ
-deliveries_with Securities n ds = n ∷ ds
-deliveries_with Money n ds = ds
+-- the tally once a leg is settled
+abbrev pub settled_with : Leg → ℕ → Tally → Tally
+settled_with leg n t = record t { deliveries = joined (is_leg Securities leg) n t.deliveries; payments = joined (is_leg Money leg) n t.payments }
 
-abbrev pub payments_with : Leg → ℕ → List ℕ → List ℕ
-payments_with Securities n ps = ps
-payments_with Money n ps = n ∷ ps
+pub numbers_with : (leg : Leg) (n : ℕ) (t : Tally) (l : Leg) → numbers_settled (settled_with leg n t) l ≡ joined (is_leg l leg) n (numbers_settled t l)
+numbers_with leg n t Securities = refl
+numbers_with leg n t Money = refl
 
-times_here : (n : ℕ) (ns : List ℕ) → times n (n ∷ ns) ≡ suc (times n ns)
-times_here n ns = omega (arith, ap one (eq-eqb n n refl))
+times_here : (b : Bool) (n : ℕ) (ns : List ℕ) → times n (joined b n ns) ≡ more b (times n ns)
+times_here true n ns = omega (arith, count_cons (λ m. eqb m n) n ns, ap one (eq-eqb n n refl))
+times_here false n ns = refl
 
-times_away : (n m : ℕ) (ns : List ℕ) → eqb n m ≡ false → times m (n ∷ ns) ≡ times m ns
-times_away n m ns e = omega (arith, ap one e)
+times_away : (b : Bool) (n m : ℕ) (ns : List ℕ) → eqb n m ≡ false → times m (joined b n ns) ≡ times m ns
+times_away true n m ns e = omega (arith, count_cons (λ k. eqb k m) n ns, ap one e)
+times_away false n m ns e = refl
 
-delivered_times : (leg : Leg) (n : ℕ) (ds : List ℕ) → times n (deliveries_with leg n ds) ≡ more leg Securities (times n ds)
-delivered_times Securities n ds = times_here n ds
-delivered_times Money n ds = refl
+-- a leg that was not settled before may count
+module _ (xs : List Obligation) (n : ℕ) (noted : find_by trade_number n xs ≡ None → ⊥) (ns : List ℕ) (s : Settled xs ns) where
+  more_once : times n ns ≡ 0 → (m : ℕ) (b : Bool) → eqb n m ≡ b → times m (n ∷ ns) ≤ 1
+  more_once z m true e = omega (arith, count_cons (λ k. eqb k m) n ns, ap one e, z, ap (λ (k : ℕ). times k ns) (eqb-true n m e))
+  more_once z m false e = omega (arith, times_away true n m ns e, s.once m)
 
-paid_times : (leg : Leg) (n : ℕ) (ps : List ℕ) → times n (payments_with leg n ps) ≡ more leg Money (times n ps)
-paid_times Securities n ps = refl
-paid_times Money n ps = times_here n ps
+  more_noted : (m : ℕ) (b : Bool) → eqb n m ≡ b → find_by trade_number m xs ≡ None → times m (n ∷ ns) ≡ 0
+  more_noted m true e f = absurd (noted (ap (λ (k : ℕ). find_by trade_number k xs) (eqb-true n m e) ∙ f))
+  more_noted m false e f = times_away true n m ns e ∙ s.noted m f
 
-delivered_away : (leg : Leg) (n m : ℕ) (ds : List ℕ) → eqb n m ≡ false → times m (deliveries_with leg n ds) ≡ times m ds
-delivered_away Securities n m ds e = times_away n m ds e
-delivered_away Money n m ds e = refl
-
-paid_away : (leg : Leg) (n m : ℕ) (ps : List ℕ) → eqb n m ≡ false → times m (payments_with leg n ps) ≡ times m ps
-paid_away Securities n m ps e = refl
-paid_away Money n m ps e = times_away n m ps e
-
-module _ (xs : List Obligation) (n : ℕ) (noted : find_by trade_number n xs ≡ None → ⊥) where
-  -- a leg that was not settled before may count
-  module _ (ns : List ℕ) (s : Settled xs ns) (z : times n ns ≡ 0) where
-    more_once : (m : ℕ) (b : Bool) → eqb n m ≡ b → times m (n ∷ ns) ≤ 1
-    more_once m true e = omega (arith, ap one e, z, ap (λ (k : ℕ). times k ns) (eqb-true n m e))
-    more_once m false e = omega (arith, times_away n m ns e, s.once m)
-
-    more_noted : (m : ℕ) (b : Bool) → eqb n m ≡ b → find_by trade_number m xs ≡ None → times m (n ∷ ns) ≡ 0
-    more_noted m true e f = absurd (noted (ap (λ (k : ℕ). find_by trade_number k xs) (eqb-true n m e) ∙ f))
-    more_noted m false e f = times_away n m ns e ∙ s.noted m f
-
-    settled_more : Settled xs (n ∷ ns)
-    settled_more = record { once = λ m. more_once m (eqb n m) refl; noted = λ m f. more_noted m (eqb n m) refl f }
-
-  delivered_with : (leg : Leg) (ds : List ℕ) (p : ℕ) → Settled xs ds → count leg (times n ds) p ≡ 0 → Settled xs (deliveries_with leg n ds)
-  delivered_with Securities ds p s z = settled_more ds s z
-  delivered_with Money ds p s z = s
-
-  paid_with : (leg : Leg) (ps : List ℕ) (d : ℕ) → Settled xs ps → count leg d (times n ps) ≡ 0 → Settled xs (payments_with leg n ps)
-  paid_with Securities ps d s z = s
-  paid_with Money ps d s z = settled_more ps s z
+  settled_joined : (b : Bool) → (b ≡ true → times n ns ≡ 0) → Settled xs (joined b n ns)
+  settled_joined true z = record { once = λ m. more_once (z refl) m (eqb n m) refl; noted = λ m f. more_noted m (eqb n m) refl f }
+  settled_joined false z = s
 
 -- a leg is settled, and what is left comes into the obligation's place
-module _ (ds ps : List ℕ) (xs : List Obligation) (os : List (Option Obligation)) (h : Legs ds ps xs os) (leg : Leg) (n : ℕ) (f : PlacedObligation) (ef : found_of os n ≡ Ok f)
+module _ (numbers later : Leg → List ℕ) (xs : List Obligation) (os : List (Option Obligation)) (h : Legs numbers xs os) (leg : Leg) (n : ℕ)
+    (joins : (l : Leg) → later l ≡ joined (is_leg l leg) n (numbers l)) (f : PlacedObligation) (ef : found_of os n ≡ Ok f)
     (left : Option Obligation) (el : settled f.obligation leg ≡ Ok left) where
   fd : Found os n f
   fd = found_held os n f (h.once n) ef
 
-  was : left_of (times n ds) (times n ps) (find_by trade_number n xs) ≡ Some f.obligation
+  was : left_of (times n (numbers Securities)) (times n (numbers Money)) (find_by trade_number n xs) ≡ Some f.obligation
   was = sym (h.owed n) ∙ fd.under
 
-  now : SettledNow leg (times n ds) (times n ps) (find_by trade_number n xs) left
-  now = settled_now leg (times n ds) (times n ps) (find_by trade_number n xs) f.obligation left was el
+  now : SettledNow leg (times n (numbers Securities)) (times n (numbers Money)) (find_by trade_number n xs) left
+  now = settled_now leg _ _ (find_by trade_number n xs) f.obligation left was el
+
+  unsettled : (l : Leg) → is_leg l leg ≡ true → times n (numbers l) ≡ 0
+  unsettled l e = ap (λ (k : Leg). times n (numbers k)) (is_leg_lem l leg e) ∙ sym (count_is leg (λ k. times n (numbers k))) ∙ now.0
 
   stage : (st : Option Stage) × (staged f.obligation st ≡ left)
   stage = staged_as f.obligation (stage_after f.obligation.stage leg) left el
@@ -240,24 +241,29 @@ module _ (ds ps : List ℕ) (xs : List Obligation) (os : List (Option Obligation
   kept = subst (λ (x : Option Obligation). cond (has_number n x) x None ≡ x) stage.1 (subst (λ (k : ℕ). cond (has_number k (staged f.obligation stage.0)) (staged f.obligation stage.0) None ≡ staged f.obligation stage.0) fd.bears (staged_on f.obligation stage.0))
 
   abbrev left_at : ℕ → Option Obligation
-  left_at m = left_of (times m (deliveries_with leg n ds)) (times m (payments_with leg n ps)) (find_by trade_number m xs)
+  left_at m = left_of (times m (later Securities)) (times m (later Money)) (find_by trade_number m xs)
+
+  joins_here : (l : Leg) → more (is_leg l leg) (times n (numbers l)) ≡ times n (later l)
+  joins_here l = sym (ap (times n) (joins l) ∙ times_here (is_leg l leg) n (numbers l))
+
+  joins_away : (m : ℕ) → eqb n m ≡ false → (l : Leg) → times m (numbers l) ≡ times m (later l)
+  joins_away m e l = sym (ap (times m) (joins l) ∙ times_away (is_leg l leg) n m (numbers l) e)
 
   owed_at : owed_under n (set os f.place left) ≡ left_at n
   owed_at =
       under_here n os f.place left (omega (arith, h.once n, ap one (held n ∙ eq-eqb n n refl))) fd.within ∙ kept ∙ sym now.1
-      ∙ sym (ap (λ (d : ℕ). left_of d (times n (payments_with leg n ps)) (find_by trade_number n xs)) (delivered_times leg n ds) ∙ ap (λ (p : ℕ). left_of (more leg Securities (times n ds)) p (find_by trade_number n xs)) (paid_times leg n ps))
+      ∙ left_same _ _ _ _ (find_by trade_number n xs) (joins_here Securities) (joins_here Money)
 
   owed_now : (m : ℕ) (b : Bool) → eqb n m ≡ b → owed_under m (set os f.place left) ≡ left_at m
   owed_now m true e = subst (λ (k : ℕ). owed_under k (set os f.place left) ≡ left_at k) (eqb-true n m e) owed_at
   owed_now m false e =
       under_other m os f.place left (held m ∙ e) (off (has_number m left) (omega (arith, few m, ap one e))) ∙ h.owed m
-      ∙ sym (ap (λ (d : ℕ). left_of d (times m (payments_with leg n ps)) (find_by trade_number m xs)) (delivered_away leg n m ds e) ∙ ap (λ (p : ℕ). left_of (times m ds) p (find_by trade_number m xs)) (paid_away leg n m ps e))
+      ∙ left_same _ _ _ _ (find_by trade_number m xs) (joins_away m e Securities) (joins_away m e Money)
 
-  pub legs_settled : Legs (deliveries_with leg n ds) (payments_with leg n ps) xs (set os f.place left)
+  pub legs_settled : Legs later xs (set os f.place left)
   legs_settled =
       record {
         owed = λ m. owed_now m (eqb n m) refl;
         once = λ m. omega (arith, places_set m os f.place left fd.within, few m, ap one (held m), h.once m);
-        delivered = delivered_with xs n (is_noted _ _ _ f.obligation was) leg ds (times n ps) h.delivered now.0;
-        paid = paid_with xs n (is_noted _ _ _ f.obligation was) leg ps (times n ds) h.paid now.0;
+        settled = λ l. subst (Settled xs) (sym (joins l)) (settled_joined xs n (is_noted _ _ _ f.obligation was) (numbers l) (h.settled l) (is_leg l leg) (unsettled l));
       }

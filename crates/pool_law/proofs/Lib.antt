@@ -2,7 +2,6 @@ pub mod Below
 pub mod Beside
 pub mod Laws
 pub mod Legs
-pub mod Places
 pub mod Pools
 pub mod Promises
 pub mod Raised

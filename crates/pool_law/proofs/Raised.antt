@@ -71,21 +71,21 @@ is_there None (Some p) r e h = absurd h
 is_there (Some p) None r e h = absurd h
 is_there (Some p) (Some q) r e h = let s : p ≡ r = cc in (q, (refl, rw (← s) h))
 
-module _ (reserve : ℕ) (opened : List Opened) (notes : List Note) (times : List Key) (rs qs : List Row) (h : Raised rs qs) (b : Books reserve opened notes times rs) where
+module _ (reserve : ℕ) (opened : List Opened) (notes : List Note) (leaving : List Key) (rs qs : List Row) (h : Raised rs qs) (b : Books reserve opened notes leaving rs) where
   before : (i : ℕ) (q : Row) → slice_get qs i ≡ Some q → (r : Row) × ((slice_get rs i ≡ Some r) × RowRaised r q)
   before i q e = was_there (slice_get rs i) (slice_get qs i) q e (raised_at rs qs i h)
 
   after : (i : ℕ) (r : Row) → slice_get rs i ≡ Some r → (q : Row) × ((slice_get qs i ≡ Some q) × RowRaised r q)
   after i r e = is_there (slice_get rs i) (slice_get qs i) r e (raised_at rs qs i h)
 
-  fair_raised : (r q : Row) (o : Opened) → RowRaised r q → FairIn reserve notes times r.figures o → FairIn reserve notes times q.figures o
+  fair_raised : (r q : Row) (o : Opened) → RowRaised r q → FairIn reserve notes leaving r.figures o → FairIn reserve notes leaving q.figures o
   fair_raised r q o z f =
       let base = base_of o.key o.limit reserve in
-      let new = fair_limit base r.figures.limit r.figures.blocked (pos o.blocked) (live_blocks o.key notes) (slack_of o.key (trades_leaving_rest_on o.key times)) f q.figures.limit
+      let new = fair_limit base r.figures.limit r.figures.blocked (pos o.blocked) (live_blocks o.key notes) (slack_of o.key (trades_leaving_rest_on o.key leaving)) f q.figures.limit
       (above_more base (r.figures.limit -ℤ r.figures.blocked) (q.figures.limit -ℤ r.figures.blocked) (omega (arith, ints, z.limit)) f.free) in
       rw z.blocked new
 
-  pub raised_books : Books reserve opened notes times qs
+  pub raised_books : Books reserve opened notes leaving qs
   raised_books =
       record {
         keys = raised_keys rs qs h ∙ b.keys;

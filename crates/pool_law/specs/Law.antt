@@ -1,6 +1,6 @@
 -- The law over whole runs of Level Three.
-use Rattle.std.specs.Prelude.{◌≡◌, ◌≢◌, ◌≤◌, ℕ, zero, suc, ◌+◌, if◌then◌else◌, ◌==◌, List, map, All, AllPairs, Some, None, Option}
-use Rattle.full_law.specs.Lists.{find_by, total}
+use Rattle.std.specs.Prelude.{◌≡◌, ◌≢◌, ◌≤◌, ℕ, zero, suc, ◌+◌, if◌then◌else◌, ◌==◌, List, map, All, AllPairs, count_by, Some, None, Option}
+use Rattle.full_law.specs.Lists.{find_by}
 use Rattle.full_law.specs.Law as one
 use Rattle.partial.specs.declared.obligation.Obligation.{Obligation}
 use Rattle.partial.specs.declared.stage.Stage.TheVariants.{BothOwed, MoneyOwed, SecuritiesOwed}
@@ -10,16 +10,15 @@ use Rattle.pool.specs.declared.leg.Leg.{Leg}
 use Rattle.pool.specs.declared.leg.Leg.TheVariants.{Securities, Money}
 use Rattle.pool.specs.Stages.{is_owed, with_stage}
 use Rattle.pool.specs.State.{State}
-use Rattle.pool_law.specs.Tally.{Tally}
+use Rattle.pool_law.specs.Tally.{Tally, numbers_settled}
 
 -- how often a number stands in a list
 abbrev pub times : ℕ → List ℕ → ℕ
-times n ns = total (λ m. if m == n then 1 else 0) ns
+times n ns = count_by (λ m. m == n) ns
 
 -- how often a leg was settled under a trade's number
 abbrev pub times_settled : Tally → Leg → ℕ → ℕ
-times_settled t Securities n = times n t.deliveries
-times_settled t Money n = times n t.payments
+times_settled t leg n = times n (numbers_settled t leg)
 
 -- how often a leg is owed, by what a table holds under a trade's number: once or not at all
 abbrev pub times_owed : Leg → Option Obligation → ℕ

@@ -3,6 +3,8 @@ use Rattle.std.specs.Prelude.{ℕ, List, [], ◌∷◌}
 use Rattle.partial_law.specs.Tally as two
 use Rattle.pool.specs.declared.call.Call.{Call}
 use Rattle.pool.specs.declared.call.Call.TheVariants.{Partial, Earmark, Deliver, Pay, Close}
+use Rattle.pool.specs.declared.leg.Leg.{Leg}
+use Rattle.pool.specs.declared.leg.Leg.TheVariants.{Securities, Money}
 
 -- the trades, by their numbers, whose securities were delivered, and those whose money was paid
 pub record Tally : Type 0 where
@@ -12,6 +14,11 @@ pub record Tally : Type 0 where
 
 abbrev pub empty : Tally
 empty = record { base = two.empty; deliveries = []; payments = [] }
+
+-- the trades, by their numbers, of which a leg was settled
+abbrev pub numbers_settled : Tally → Leg → List ℕ
+numbers_settled t Securities = t.deliveries
+numbers_settled t Money = t.payments
 
 -- the tally with an accepted call
 abbrev pub entered : Tally → Call → Tally

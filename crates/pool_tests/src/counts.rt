@@ -5,8 +5,8 @@ use crate::support::{
     SETTINGS, Tickets, beyond, check, check_rows, deliver, earmark, figures, pay,
 };
 use counting::counting::Counting;
+use counting::pool_calls::counted_call;
 use partial::obligation::Obligation;
-use plans::machine::Machine;
 use pool::call::Call;
 use pool::shown::Shown;
 use registers::row::BLANK;
@@ -22,7 +22,7 @@ pub type Counted = (Call, Result<i64, u8>, u64);
 fn make_counted<S: Store>(rt: &impl Abort, pool: &mut Shown<'_, Counting<S>>, steps: &[Counted]) {
     let mut changes = pool.engine.partial.full.store.changes();
     for (place, (call, expected, puts)) in steps.iter().enumerate() {
-        let answer = pool.carry_out(*call).map_err(|refusal| refusal.number());
+        let answer = counted_call(pool, *call).map_err(|refusal| refusal.number());
         assert_eq!(rt; answer, *expected, "call {place}");
         changes = changes.saturating_add(*puts);
         assert_eq!(rt;

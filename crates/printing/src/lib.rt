@@ -2,6 +2,8 @@
 #![tactic(auto)]
 
 pub mod calls;
-pub mod shown;
-pub mod shown_partial;
-pub mod shown_pool;
+pub mod printed_call;
+mod printed_collateral;
+pub mod printed_outcome;
+pub mod printed_partial_call;
+pub mod printed_pool_call;

@@ -1,6 +1,6 @@
 //! How many changes of a store an accepted call makes.
 
-use crate::notes::Note;
+use crate::note::Note;
 use crate::tally::Tally;
 use full::call::Call as FullCall;
 use full::deal::Deal;

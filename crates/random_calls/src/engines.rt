@@ -2,9 +2,10 @@
 
 use crate::changes::changes_of;
 use crate::drift::Drift;
-use crate::failure::{Found, Place};
 use crate::fault::Fault;
+use crate::found::Found;
 use crate::law::look_at;
+use crate::place::Place;
 use crate::tally::Tally;
 use counting::counting::Counting;
 use plans::machine::Machine;

@@ -4,7 +4,7 @@ ghost use Rattle.std.specs.Prelude.{◌≤◌, IfOk};
 
 use crate::drift::{Drift, NO_DRIFT};
 use crate::fault::Fault;
-use crate::notes::Opened;
+use crate::opened::Opened;
 use crate::tally::Tally;
 use full::book::Book;
 use partial::obligations::Obligations;

@@ -2,32 +2,12 @@
 
 use crate::codes::{account, security};
 use crate::draws::Draws;
-use crate::orders::Market;
+use crate::market::Market;
 use crate::shape::Shape;
-use partial::obligation::Obligation;
-use partial::obligations::MOST_OBLIGATIONS;
-use pool::asset::Asset;
+use full::asset::Asset;
 use pool::call::Call;
 use pool::debt::Debt;
 use pool::leg::Leg;
-use pool::settle::Settle;
-
-impl Market<'_> {
-    /// The first obligation that owes a leg, or any leg where none is asked for, from a place that is drawn on and
-    /// once around.
-    fn owing(self, draws: &mut Draws, leg: Option<Leg>) -> Option<Obligation> {
-        let start = draws.below(MOST_OBLIGATIONS as u32) as usize;
-        for step in 0..MOST_OBLIGATIONS {
-            let place = (start + step) % MOST_OBLIGATIONS;
-            if let Some(Some(obligation)) = self.obligations.table.get(place) {
-                if leg.is_none_or(|leg| obligation.is_owed(leg)) {
-                    return Some(*obligation);
-                }
-            }
-        }
-        None
-    }
-}
 
 /// The number of an obligation that owes a leg, or 0 where none does; now and then of any that stands, or any number
 /// below that of the last trade.

@@ -8,28 +8,45 @@
 //! what the looker does not notice is a failure.
 #![tactic(auto)]
 
+mod any_note;
+mod asked;
+mod carried;
 mod changes;
 mod codes;
+mod costs;
 mod counts;
+mod course;
 mod draws;
 mod drift;
 mod engines;
 mod failure;
 mod fault;
+mod found;
 mod kind;
 mod law;
 mod legs;
+mod line;
 mod making;
-mod notes;
+mod market;
+mod note;
+mod opened;
 mod orders;
+mod owed;
+mod place;
 mod runs;
 mod shape;
 mod spoiling;
 mod tally;
+mod task;
+mod tickets;
+mod two;
+mod weights;
+mod wish;
 
 use crate::counts::Counts;
 use crate::draws::Draws;
-use crate::runs::{Task, run_all};
+use crate::runs::run_all;
+use crate::task::Task;
 use std::process::ExitCode;
 use std::{env, io};
 

@@ -3,8 +3,10 @@
 use crate::codes::{account, amount, limit, participant, security};
 use crate::draws::Draws;
 use crate::legs::{delivery, earmark, payment};
-use crate::orders::{Market, announcement, trade, withdrawal};
-use crate::shape::{Shape, Wish};
+use crate::market::Market;
+use crate::orders::{announcement, trade, withdrawal};
+use crate::shape::Shape;
+use crate::wish::Wish;
 use full::call::Call as FullCall;
 use full::opening::Opening;
 use partial::call::Call as PartialCall;

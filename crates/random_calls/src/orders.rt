@@ -2,112 +2,16 @@
 
 use crate::codes::{account, number_after, security};
 use crate::draws::Draws;
+use crate::market::Market;
 use crate::shape::Shape;
+use crate::two::Two;
 use full::announcement::Announcement;
-use full::book::{Book, MOST_ORDERS};
 use full::call::Call as FullCall;
 use full::deal::Deal;
 use full::mode::Mode;
 use full::order::Order;
 use full::side::Side;
-use partial::obligations::Obligations;
 use registers::ranges::{MOST_PRICE, MOST_QUANTITY};
-
-/// What a call is drawn against: the order book, the obligations, and the number of the last trade.
-#[derive(Clone, Copy)]
-pub struct Market<'a> {
-    pub book: &'a Book,
-    pub obligations: &'a Obligations,
-    pub last_trade: u32,
-}
-
-/// What is asked of a live order: a side, if one is, and that it matches a buy, if there is one.
-#[derive(Clone, Copy)]
-struct Asked {
-    side: Option<Side>,
-    buy: Option<Order>,
-}
-
-/// How many buys are tried to find a sell for.
-const TRIES: u32 = 4;
-
-/// Two orders to trade, as far as they were found.
-#[derive(Clone, Copy)]
-struct Two {
-    buy: Option<Order>,
-    sell: Option<Order>,
-}
-
-/// Whether a buy and a sell could be traded.
-fn matches(buy: Order, sell: Order) -> bool {
-    sell.security == buy.security
-        && sell.mode == buy.mode
-        && sell.account != buy.account
-        && sell.price.value <= buy.price.value
-}
-
-impl Asked {
-    fn is_met_by(self, order: Order) -> bool {
-        self.side.is_none_or(|side| side == order.side)
-            && self.buy.is_none_or(|buy| matches(buy, order))
-    }
-}
-
-impl Market<'_> {
-    /// The first order that meets what is asked, from a place that is drawn on and once around.
-    fn find(self, draws: &mut Draws, asked: Asked) -> Option<Order> {
-        let start = draws.below(MOST_ORDERS as u32) as usize;
-        for step in 0..MOST_ORDERS {
-            let place = (start + step) % MOST_ORDERS;
-            if let Some(Some(order)) = self.book.orders.get(place) {
-                if asked.is_met_by(*order) {
-                    return Some(*order);
-                }
-            }
-        }
-        None
-    }
-
-    fn any(self, draws: &mut Draws, side: Option<Side>) -> Option<Order> {
-        self.find(draws, Asked { side, buy: None })
-    }
-
-    /// A buy; now and then any order.
-    fn buy(self, draws: &mut Draws) -> Option<Order> {
-        let side = if draws.one_in(24) {
-            None
-        } else {
-            Some(Side::Buy)
-        };
-        self.any(draws, side)
-    }
-
-    /// A sell that matches the buy; now and then any sell, or any order.
-    fn sell(self, draws: &mut Draws, buy: Option<Order>) -> Option<Order> {
-        if draws.one_in(24) {
-            return self.any(draws, None);
-        }
-        let side = Some(Side::Sell);
-        if draws.one_in(6) {
-            return self.any(draws, side);
-        }
-        self.find(draws, Asked { side, buy })
-    }
-
-    /// Two orders to trade: the first of a few buys that a sell is found for, or else any buy and any sell.
-    fn two(self, draws: &mut Draws) -> Two {
-        for _ in 0..TRIES {
-            let buy = self.buy(draws);
-            let sell = self.sell(draws, buy);
-            if sell.is_some() {
-                return Two { buy, sell };
-            }
-        }
-        let buy = self.any(draws, Some(Side::Buy));
-        let sell = self.any(draws, Some(Side::Sell));
-        Two { buy, sell }
-    }
-}
 
 /// The number of an order that was found, or 0 where none was; now and then any number below the last.
 fn number_of(draws: &mut Draws, order: Option<Order>, last: u32) -> u32 {

@@ -1,25 +1,28 @@
 //! Runs of random calls over the three stores.
 
+use crate::carried::Carried;
 use crate::counts::Counts;
+use crate::course::Course;
 use crate::draws::Draws;
-use crate::drift::Drift;
 use crate::engines::Engines;
-use crate::failure::{Failure, Found, Place};
+use crate::failure::Failure;
+use crate::found::Found;
 use crate::kind::CallKind;
 use crate::making;
-use crate::orders::Market;
-use crate::shape::{AT_FIRST, FIRST_CALLS, SHAPE_COUNT, SHAPES, Shape};
+use crate::market::Market;
+use crate::place::Place;
+use crate::shape::{SHAPE_COUNT, SHAPES, Shape};
 use crate::spoiling::SPOILINGS;
 use crate::tally::Tally;
+use crate::task::Task;
+use crate::tickets::Tickets;
+use crate::weights::{AT_FIRST, FIRST_CALLS};
 use counting::counting::Counting;
 use full::settings::Settings;
-use plans::refusal::Refusal;
 use pool::call::Call;
 use pool::engine::Engine;
-use pool::shown::Shown;
 use pool::ticket::{Collecting, Ending};
-use registers::image;
-use registers::image::ImageStore;
+use registers::image::{self, HEADER, ImageStore, ROW};
 use registers::row::BLANK;
 use registers::store::Store;
 use registers::table::RowStore;
@@ -27,36 +30,6 @@ use std::alloc::Global;
 
 /// How many calls a run has.
 pub const CALLS_EACH: u64 = 1_000;
-
-/// What is asked of all runs: how many calls they have together, and after how many calls of each notes are spoilt,
-/// if they are.
-#[derive(Clone, Copy)]
-pub struct Task {
-    pub calls: u64,
-    pub spoil_after: Option<u64>,
-}
-
-/// A shape, how many calls a run of it has, and after how many of them notes are spoilt, if they are.
-#[derive(Clone, Copy)]
-struct Course {
-    shape: Shape,
-    length: u64,
-    spoil_after: Option<u64>,
-}
-
-/// The tickets that the calls of a run are shown.
-#[derive(Clone, Copy)]
-struct Tickets<'t> {
-    collecting: &'t Collecting,
-    ending: &'t Ending,
-}
-
-/// What came of a call: what the engines answered, and the greatest drift after it.
-#[derive(Clone, Copy)]
-struct Carried {
-    outcome: Result<i64, Refusal>,
-    drift: Drift,
-}
 
 /// Draws the next call of a run, of which some were made, against an engine.
 fn draw<S: Store>(draws: &mut Draws, shape: &Shape, made: u64, engine: &Engine<S>) -> Call {
@@ -146,7 +119,7 @@ fn run(
         reserve: shape.reserve,
     };
     let mut table = vec![in heap; BLANK; shape.room]?;
-    let mut bytes = vec![in heap; 0; 7 + 31 * shape.room]?;
+    let mut bytes = vec![in heap; 0; HEADER + ROW * shape.room]?;
     let mut counted = vec![in heap; BLANK; shape.room]?;
     // long enough for a header
     let _ = image::format(&mut bytes);
@@ -160,16 +133,6 @@ fn run(
     };
     let mut tally = Tally::new(heap, shape.reserve);
     deal(&mut engines, &mut tally, course, draws, counts)
-}
-
-impl<'t> Tickets<'t> {
-    fn shown_to<S: Store>(self, engine: Engine<S>) -> Shown<'t, S> {
-        Shown {
-            engine,
-            collecting: self.collecting,
-            ending: self.ending,
-        }
-    }
 }
 
 /// Runs of the shapes in turn, whose calls are shown tickets.

@@ -1,8 +1,11 @@
 //! Notes that are spoilt on purpose, to show that the looker finds each.
 
+use crate::any_note::AnyNote;
 use crate::fault::Fault;
 use crate::law::{drift_of, look_at};
-use crate::notes::{AnyNote, Note, Opened, Owed};
+use crate::note::Note;
+use crate::opened::Opened;
+use crate::owed::Owed;
 use crate::tally::Tally;
 use full::announcement::Announcement;
 use partial::obligation::Obligation;

@@ -1,7 +1,10 @@
 //! A second account of a run, kept from the calls and whether they were accepted, and from nothing else.
 
+use crate::any_note::AnyNote;
 use crate::fault::Fault;
-use crate::notes::{AnyNote, Note, Opened, Owed};
+use crate::note::Note;
+use crate::opened::Opened;
+use crate::owed::Owed;
 use full::announcement::Announcement;
 use full::call::Call as FullCall;
 use full::deal::Deal;

@@ -1,8 +1,6 @@
 -- The rows of an image, and what a write into one of them, or past the last, leaves.
-use Rattle.std.proofs.Common.{◌≡◌, ℕ, zero, suc, ◌+◌, ◌-◌, ◌*◌, ◌/◌, ◌^◌, ◌<◌, ◌≤◌, min, Bool, true, false, cond, ltb, ◌⊎◌, List, [], ◌∷◌, ◌++◌, length, get_or, take, drop, ℤ, Some, None, Ok, Err, Result, sym, refl, ap, ◌∙◌, inl, inr, ⊎_elim, arith, length-append, w64, SFits, to_z, of_z, le-ltb, lt-ltb}
-use mir.Facts.{Fits-of_z}
+use Rattle.std.proofs.Common.{◌≡◌, ℕ, zero, suc, ◌+◌, ◌-◌, ◌*◌, ◌/◌, ◌^◌, ◌<◌, ◌≤◌, min, Bool, true, false, cond, ltb, ◌⊎◌, List, [], ◌∷◌, ◌++◌, length, get_or, take, drop, ℤ, Some, None, Ok, Err, Result, sym, refl, ap, ◌∙◌, inl, inr, ⊎_elim, arith, length-append, w64, SFits, le-ltb, lt-ltb}
 use Rattle.std.proofs.lemmas.List.{length-map, take_at, drop_at, take_all, append_assoc, get_or-take}
-use Rattle.std.proofs.lemmas.Int.{to_z-of_z}
 use Rattle.std.proofs.lemmas.Bool.{cases_order}
 use Rattle.std.specs.List.{slice_get}
 use Rattle.std.specs.Option.{option_map}
@@ -11,7 +9,7 @@ use Rattle.seek.specs.Place.{place_of}
 use Rattle.seek.proofs.Places.{place_of_map}
 use Rattle.registers.specs.Registers.{same_key}
 use Rattle.byte_fields.specs.Fields.{be, bytes_of, part, spliced, signed_be, signed_bytes_of, put_at}
-use Rattle.byte_fields.proofs.Widths.{be-bytes_of, length-spliced, part_same, part_apart, part_inside, spliced-spliced, written_within}
+use Rattle.byte_fields.proofs.Widths.{be-bytes_of, signed_back, length-spliced, part_same, part_apart, part_inside, spliced-spliced, written_within}
 use Rattle.registers.specs.declared.key.Key.{Key}
 use Rattle.registers.specs.declared.figures.Figures.{Figures}
 use Rattle.registers.specs.declared.row.Row.{Row}
@@ -66,11 +64,6 @@ pub record FiguresFit (f : Figures) : Type 0 where
   pub limit : SFits w64 f.limit
   pub blocked : SFits w64 f.blocked
   pub third : SFits w64 f.third
-
-signed_back : (z : ℤ) → SFits w64 z → signed_be (signed_bytes_of z) ≡ z
-signed_back z f =
-    let l : of_z w64 z < 256 ^ 8 = (Fits-of_z f).fits in
-    ap (λ (n : ℕ). to_z w64 n) (be-bytes_of 8 (of_z w64 z) l) ∙ to_z-of_z w64 z f
 
 -- a key and figures that were written are read back
 pub key_written : (at : ℕ) (s : List ℕ) (k : Key) → KeyFits k → 7 + at ≤ length s → key_at at (spliced 7 at (key_bytes k) s) ≡ k

@@ -6,3 +6,4 @@ pub mod Tables
 pub mod Images
 pub mod Bounds
 pub mod Texts
+pub mod Constants

@@ -1,15 +1,16 @@
 -- Registers: when figures are in range, when keys are the same, and the numbers of faults.
-use Rattle.std.specs.Prelude.{ℕ, Bool, if◌then◌else◌, Some, None, Option, ◌&&◌, ℤ, pos, negsuc, ◌+ℤ◌, ◌≤ℤ◌, ◌==◌, int_le}
+use Rattle.std.specs.Prelude.{ℕ, Bool, if◌then◌else◌, Some, None, Option, ◌&&◌, ℤ, pos, ◌+ℤ◌, ◌≤ℤ◌, ◌==◌, int_le}
 use Rattle.registers.specs.declared.key.Key.{Key}
 use Rattle.registers.specs.declared.figures.Figures.{Figures}
+use Rattle.registers.specs.declared.figures.TheConstants.{LEAST_FIGURE, MOST_FIGURE}
 use Rattle.registers.specs.declared.kind.RegisterKind.{RegisterKind}
 use Rattle.registers.specs.declared.kind.RegisterKind.TheVariants.{Cash, Holding, Participant}
 use Rattle.registers.specs.declared.fault.StoreFault.{StoreFault}
 use Rattle.registers.specs.declared.fault.StoreFault.TheVariants.{Full, NotOpen, OutOfRange}
 
--- from −10^15 to 10^15
+-- a figure that lies between the least and the greatest
 unfoldable pub bounded : ℤ → Bool
-bounded z = int_le (negsuc 999999999999999) z && int_le z (pos 1000000000000000)
+bounded z = int_le LEAST_FIGURE z && int_le z MOST_FIGURE
 
 -- each figure, and limit plus third, is bounded, and the third is not negative
 unfoldable pub in_range : Figures → Bool
@@ -17,8 +18,8 @@ in_range f = bounded f.limit && (bounded f.blocked && (bounded f.third && (bound
 
 -- what a figure in range is good for: sums of a few of them fit 64 bits
 pub record Within (z : ℤ) : Type 0 where
-  pub low : negsuc 999999999999999 ≤ℤ z
-  pub high : z ≤ℤ pos 1000000000000000
+  pub low : LEAST_FIGURE ≤ℤ z
+  pub high : z ≤ℤ MOST_FIGURE
 
 pub record Bounded (f : Figures) : Type 0 where
   pub limit_within : Within f.limit

@@ -1,4 +1,4 @@
--- The text of keys, figures, rows and faults: their numbers, with spaces between them.
+-- The texts of keys, figures and rows, their numbers with spaces between them, and of faults.
 use Rattle.std.specs.Prelude.{ℕ, List, ◌++◌, codes, decimal}
 use Rattle.std.specs.Fmt.{signed_decimal}
 use Rattle.registers.specs.declared.key.Key.{Key}
@@ -19,3 +19,7 @@ row_text r = key_text r.key ++ (codes " " ++ figures_text r.figures)
 -- a fault's refusal number, and S for the store
 abbrev pub fault_text : StoreFault → List ℕ
 fault_text e = decimal (fault_number e) ++ codes " S"
+
+-- what bytes without room for a header are told by
+abbrev pub too_short_text : List ℕ
+too_short_text = codes "too short for the header of an image"

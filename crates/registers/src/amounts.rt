@@ -1,9 +1,11 @@
 //! Amounts: what a quantity costs at a price, and the collateral that its risk asks for.
 
-ghost use Rattle.std.specs.Prelude.{◌≡◌, ◌*◌, ◌≤◌, pos};
-ghost use Rattle.registers.specs.Amounts.{money_of, risk_of, rounded, RoundedNear, RoundedMonotone, RoundedNone};
+ghost use Rattle.std.specs.Prelude.{◌≡◌, ◌≤◌, pos};
+ghost use Rattle.registers.specs.declared.amounts.TheConstants.{MOST_AMOUNT};
+ghost use Rattle.registers.specs.Amounts.{money_of, risk_of, RoundedNear, RoundedMonotone, RoundedNone};
 
 use crate::ranges::{Price, Quantity, Ratio};
+use crate::unrounded::Unrounded;
 
 /// What a quantity times a price is divided by: the ten-thousandths of a ruble in a kopeck.
 pub const MONEY_DIVISOR: u64 = 100;
@@ -12,12 +14,18 @@ pub const MONEY_DIVISOR: u64 = 100;
 /// the ten-thousandths in the ratio of the whole value.
 pub const RISK_DIVISOR: u64 = 1_000_000;
 
+/// The greatest amount, in kopecks or in pieces of a security.
+pub const MOST_AMOUNT: u64 = 10_000_000_000_000_000;
+
+/// The kopecks that the greatest quantity costs at the greatest price.
+pub const MOST_VALUE: u64 = 1_000_000_000_000;
+
 /// Kopecks, or pieces of a security, that a call moves: 0 to 10^16, so that a figure in range and
 /// any few amounts add up within 64 bits.
 #[derive(Clone, Copy, PartialEq, Eq, Debug)]
 pub struct Amount {
     pub units: u64,
-    ghost most: { units ≤ 10000000000000000 },
+    ghost most: { units ≤ MOST_AMOUNT },
 }
 
 /// As many pieces as a quantity counts.
@@ -43,9 +51,9 @@ impl From<Amount> for i64 {
 /// The kopecks that `quantity` costs at `price`: their product by 100, rounded once, a half upwards.
 pub fn money(quantity: Quantity, price: Price) -> Amount
     ensures value { result.units ≡ money_of quantity.value price.value }
-    ensures bound { result.units ≤ 1000000000000 }
+    ensures bound { result.units ≤ MOST_VALUE }
 {
-    let units = hundredths(product(quantity, price));
+    let units = Unrounded::product(quantity, price).hundredths();
     Amount { units }
 }
 
@@ -53,46 +61,10 @@ pub fn money(quantity: Quantity, price: Price) -> Amount
 /// rounded once, a half upwards.
 pub fn risk(quantity: Quantity, price: Price, ratio: Ratio) -> Amount
     ensures value { result.units ≡ risk_of quantity.value price.value ratio.value }
-    ensures bound { result.units ≤ 1000000000000 }
+    ensures bound { result.units ≤ MOST_VALUE }
 {
-    let units = millionths(product(quantity, price), ratio);
+    let units = Unrounded::product(quantity, price).millionths(ratio);
     Amount { units }
-}
-
-/// A quantity times a price, not rounded yet.
-#[derive(Clone, Copy)]
-struct Unrounded {
-    value: u64,
-    ghost most: { value ≤ 100000000000000 },
-}
-
-fn product(quantity: Quantity, price: Price) -> Unrounded
-    ensures { result.value ≡ quantity.value * price.value }
-{
-    let value = u64::from(quantity.value) * u64::from(price.value);
-    Unrounded { value }
-}
-
-// apart from `millionths`: by quotient and remainder, where that takes one sum, so that the one definition of
-// rounding is proved of two ways of working
-#[tactic(auto, unfolding(crate::specs::Amounts::rounded))]
-fn hundredths(product: Unrounded) -> u64
-    ensures value { result ≡ rounded MONEY_DIVISOR product.value }
-    ensures bound { result ≤ 1000000000000 }
-{
-    let quotient = product.value / MONEY_DIVISOR;
-    if product.value % MONEY_DIVISOR >= MONEY_DIVISOR / 2 {
-        quotient + 1
-    } else {
-        quotient
-    }
-}
-
-fn millionths(product: Unrounded, ratio: Ratio) -> u64
-    ensures value { result ≡ rounded RISK_DIVISOR (product.value * ratio.value) }
-    ensures bound { result ≤ 1000000000000 }
-{
-    (product.value * u64::from(ratio.value) + RISK_DIVISOR / 2) / RISK_DIVISOR
 }
 
 /// Over every divisor: two parts round to within one of what their sum rounds to, a greater number

@@ -10,8 +10,11 @@ use crate::fault::StoreFault;
 use crate::in_range::InRange;
 use std::fmt;
 
-/// The greatest value of a figure in range, and with a minus the least.
+/// The greatest value of a figure in range: 10^15 kopecks, or pieces of a security.
 pub const MOST_FIGURE: i64 = 1_000_000_000_000_000;
+
+/// The least value of a figure in range.
+pub const LEAST_FIGURE: i64 = -MOST_FIGURE;
 
 /// A register's figures, in kopecks or in pieces of its security. The third is the delivery figure in
 /// registers of cash and of holdings, the collateral in a participant's.
@@ -22,13 +25,13 @@ pub struct Figures {
     pub third: i64,
 }
 
-// `bounds`, here and below, is what the answer is to whoever makes an `InRange` of it
+// `bounds`, here and below, is what whoever makes an `InRange` learns from the answer
 #[tactic(auto, unfolding(crate::specs::Registers::bounded))]
 fn is_bounded(figure: i64) -> bool
     ensures answer { result ≡ bounded figure }
     ensures bounds { result ≡ true → Within figure }
 {
-    -MOST_FIGURE <= figure && figure <= MOST_FIGURE
+    LEAST_FIGURE <= figure && figure <= MOST_FIGURE
 }
 
 impl Figures {

@@ -1,27 +1,36 @@
 //! The image store: rows in bytes that its owner lends.
 
-ghost use Rattle.std.specs.Prelude.{◌≡◌, ◌+◌, ◌-◌, ◌*◌, ◌/◌, ◌<◌, ◌≤◌, min, [], length, is_ok, Some, OnOk, nat_le};
+ghost use Rattle.std.specs.Prelude.{◌≡◌, ◌+◌, ◌-◌, ◌*◌, ◌/◌, ◌<◌, ◌≤◌, min, [], length, is_ok, Some, nat_le};
 ghost use Rattle.std.specs.List.{slice_get};
 ghost use Rattle.byte_fields.specs.Fields.{part, signed_be, spliced};
 ghost use Rattle.registers.specs.Stores.{place_for, put_row, put_answer, add_row, add_answer};
 ghost use Rattle.registers.specs.Bounds.{image_bounded};
 ghost use Rattle.registers.specs.Changes.{Led, led-none, led-joined};
-ghost use Rattle.registers.specs.Images.{key_at, figures_at, row_at, marked, room_of, count_of, image_rows, image_keys, key_bytes, figure_bytes, row_bytes, put_bytes, add_bytes, change_bytes, formatted};
+ghost use Rattle.registers.specs.Images.{key_at, figures_at, row_at, marked, room_of, count_of, image_rows, key_bytes, figure_bytes, row_bytes, put_bytes, add_bytes, change_bytes, formatted};
 
 use crate::fault::StoreFault;
 use crate::figures::Figures;
+use crate::image_keys::ImageKeys;
 use crate::key::Key;
 use crate::row::Row;
 use crate::store::{MOST_ROWS, Store};
 use crate::too_short::TooShort;
 use byte_fields::{Field, read, write};
-use seek::Table;
 
-/// Bytes before the first row: mark, version and count.
-const HEADER: usize = 7;
+/// Bytes of an image before its first row: mark, version and count.
+pub const HEADER: usize = 7;
 
-/// Bytes of one row.
-const ROW: usize = 31;
+/// Where in the header the two bytes of the count begin.
+const COUNT_PLACE: usize = 5;
+
+/// Bytes of a row's key: kind, code and security.
+const KEY: usize = 7;
+
+/// Bytes of a row's three figures.
+const FIGURES: usize = 24;
+
+/// Bytes of one row of an image: its key, and then its figures.
+pub const ROW: usize = KEY + FIGURES;
 
 fn is_marked(bytes: &[u8]) -> bool
     ensures { result ≡ marked bytes.now }
@@ -39,25 +48,25 @@ fn room_of(bytes: &[u8]) -> usize
     }
 }
 
-fn count_of(bytes: &[u8]) -> usize
+pub(crate) fn count_of(bytes: &[u8]) -> usize
     ensures { result ≡ count_of bytes.now }
 {
     let room = room_of(bytes);
-    read::<u16>(bytes, 5).map_or(0, |count| usize::from(count).min(room))
+    read::<u16>(bytes, COUNT_PLACE).map_or(0, |count| usize::from(count).min(room))
 }
 
 // that so many bytes lie behind a place is said at each function on a row: a place alone has no such fact, and a
 // row is defined by its offsets in the whole image; so no field of a row is read by `read`, which tests that again
 
 #[tactic(auto, unfolding(crate::specs::Images::key_at))]
-fn key_at(bytes: &[u8], at: usize) -> Option<Key>
-    requires { at + 7 ≤ length bytes.now }
+pub(crate) fn key_at(bytes: &[u8], at: usize) -> Option<Key>
+    requires { at + KEY ≤ length bytes.now }
     ensures { result ≡ Some (key_at at bytes.now) }
 {
     Some(Key {
         kind: u8::from_bytes(&bytes[at..at + 1])?,
         code: u32::from_bytes(&bytes[at + 1..at + 5])?,
-        security: u16::from_bytes(&bytes[at + 5..at + 7])?,
+        security: u16::from_bytes(&bytes[at + 5..at + KEY])?,
     })
 }
 
@@ -70,7 +79,7 @@ fn figure_at(bytes: &[u8], at: usize) -> Option<i64>
 
 #[tactic(auto, using(crate::proofs::Signed::signed), unfolding(crate::specs::Images::figures_at))]
 fn figures_at(bytes: &[u8], at: usize) -> Option<Figures>
-    requires { at + 24 ≤ length bytes.now }
+    requires { at + FIGURES ≤ length bytes.now }
     ensures { result ≡ Some (figures_at at bytes.now) }
 {
     Some(Figures {
@@ -81,12 +90,12 @@ fn figures_at(bytes: &[u8], at: usize) -> Option<Figures>
 }
 
 fn row_at(bytes: &[u8], at: usize) -> Option<Row>
-    requires { at + 31 ≤ length bytes.now }
+    requires { at + ROW ≤ length bytes.now }
     ensures { result ≡ Some (row_at at bytes.now) }
 {
     Some(Row {
         key: key_at(bytes, at)?,
-        figures: figures_at(bytes, at + 7)?,
+        figures: figures_at(bytes, at + KEY)?,
     })
 }
 
@@ -97,29 +106,6 @@ fn row_in(bytes: &[u8], place: usize) -> Option<Row>
         return None;
     }
     row_at(bytes, HEADER + place * ROW)
-}
-
-// a search compares keys: it counts once, and reads no figures
-#[derive(Clone, Copy)]
-struct ImageKeys<'a> {
-    bytes: &'a [u8],
-    count: usize,
-    ghost counted: { count ≡ count_of bytes.now },
-}
-
-impl Table<Key> for ImageKeys<'_> {
-    ghost records = { λ s. image_keys s.bytes.now };
-
-    fn count(&self) -> usize {
-        self.count
-    }
-
-    fn record(&self, place: usize) -> Option<Key> {
-        if place >= self.count {
-            return None;
-        }
-        key_at(self.bytes, HEADER + place * ROW)
-    }
 }
 
 fn find_in(bytes: &[u8], key: Key) -> Option<usize>
@@ -133,8 +119,8 @@ fn find_in(bytes: &[u8], key: Key) -> Option<usize>
 // what `write` answers is known here and below: the bytes of the field are required
 
 fn write_key(bytes: &mut [u8], at: usize, key: Key)
-    requires { at + 7 ≤ length bytes.old }
-    ensures { bytes.new ≡ spliced 7 at (key_bytes key) bytes.old }
+    requires { at + KEY ≤ length bytes.old }
+    ensures { bytes.new ≡ spliced KEY at (key_bytes key) bytes.old }
 {
     let _ = write(bytes, at, key.kind);
     let _ = write(bytes, at + 1, key.code);
@@ -142,8 +128,8 @@ fn write_key(bytes: &mut [u8], at: usize, key: Key)
 }
 
 fn write_figures(bytes: &mut [u8], at: usize, figures: Figures)
-    requires { at + 24 ≤ length bytes.old }
-    ensures { bytes.new ≡ spliced 24 at (figure_bytes figures) bytes.old }
+    requires { at + FIGURES ≤ length bytes.old }
+    ensures { bytes.new ≡ spliced FIGURES at (figure_bytes figures) bytes.old }
 {
     let _ = write(bytes, at, figures.limit);
     let _ = write(bytes, at + 8, figures.blocked);
@@ -151,20 +137,20 @@ fn write_figures(bytes: &mut [u8], at: usize, figures: Figures)
 }
 
 fn write_row(bytes: &mut [u8], at: usize, row: Row)
-    requires { at + 31 ≤ length bytes.old }
-    ensures { bytes.new ≡ spliced 31 at (row_bytes row) bytes.old }
+    requires { at + ROW ≤ length bytes.old }
+    ensures { bytes.new ≡ spliced ROW at (row_bytes row) bytes.old }
 {
     write_key(bytes, at, row.key);
-    write_figures(bytes, at + 7, row.figures);
+    write_figures(bytes, at + KEY, row.figures);
 }
 
 /// Writes the header of an empty store into `bytes`; every byte past the header stays as it stood.
-/// Refuses bytes too short for the 7 of it; they are then all as they stood.
+/// Refuses bytes too short for the 7 of it; they are then all as they stood, and an image without room.
 pub fn format(bytes: &mut [u8]) -> Result<(), TooShort>
     ensures answer { is_ok result ≡ nat_le HEADER (length bytes.old) }
     ensures after { bytes.new ≡ formatted bytes.old }
-    ensures empty { OnOk result (image_rows bytes.new ≡ []) }
-    ensures room { OnOk result (room_of bytes.new ≡ min ((length bytes.old - HEADER) / ROW) MOST_ROWS) }
+    ensures empty { image_rows bytes.new ≡ [] }
+    ensures room { room_of bytes.new ≡ min ((length bytes.old - HEADER) / ROW) MOST_ROWS }
 {
     if bytes.len() < HEADER {
         return Err(TooShort);
@@ -184,7 +170,7 @@ fn put_bytes(bytes: &mut [u8], place: usize, figures: Figures) -> Result<(), Sto
     if place >= count_of(bytes) {
         return Err(StoreFault::NotOpen);
     }
-    write_figures(bytes, HEADER + place * ROW + 7, figures);
+    write_figures(bytes, HEADER + place * ROW + KEY, figures);
     Ok(())
 }
 
@@ -200,7 +186,7 @@ fn add_bytes(bytes: &mut [u8], row: Row) -> Result<(), StoreFault>
     }
     write_row(bytes, HEADER + count * ROW, row);
     // the count lies within the header, and the cast is proved to lose nothing
-    let _ = write(bytes, 5, count as u16 + 1);
+    let _ = write(bytes, COUNT_PLACE, count as u16 + 1);
     Ok(())
 }
 
@@ -261,10 +247,12 @@ impl Store for ImageStore<'_> {
         find_in(self.bytes(), key)
     }
 
+    #[tactic(auto, using(crate::proofs::Images::put_changed))]
     fn put(&mut self, place: usize, figures: Figures) -> Result<(), StoreFault> {
         put_bytes(self.bytes, place, figures)
     }
 
+    #[tactic(auto, using(crate::proofs::Images::add_changed))]
     fn add(&mut self, row: Row) -> Result<(), StoreFault> {
         add_bytes(self.bytes, row)
     }

@@ -1,6 +1,7 @@
 //! Figures that are known to be in range.
 
-ghost use Rattle.registers.specs.Registers.{Bounded};
+ghost use Rattle.std.specs.Prelude.{◌≡◌, true};
+ghost use Rattle.registers.specs.Registers.{in_range, Bounded};
 
 use crate::figures::Figures;
 
@@ -8,5 +9,6 @@ use crate::figures::Figures;
 #[derive(Clone, Copy, PartialEq, Eq, Debug)]
 pub struct InRange {
     pub figures: Figures,
+    ghost in_range: { in_range figures ≡ true },
     ghost bounded: { Bounded figures },
 }

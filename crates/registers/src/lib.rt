@@ -2,9 +2,11 @@
 #![tactic(auto)]
 
 pub mod amounts;
+pub mod constants;
 pub mod fault;
 pub mod figures;
 pub mod image;
+mod image_keys;
 pub mod in_range;
 pub mod key;
 pub mod kind;
@@ -13,3 +15,4 @@ pub mod row;
 pub mod store;
 pub mod table;
 pub mod too_short;
+mod unrounded;

@@ -12,11 +12,13 @@ pub struct Ranged<const MOST: u32> {
     ghost most: { value ≤ MOST },
 }
 
-/// The greatest price, quantity and ratio.
+/// The greatest price, in ten-thousandths of a ruble.
 pub const MOST_PRICE: u32 = 100_000_000;
 
+/// The greatest quantity, in pieces.
 pub const MOST_QUANTITY: u32 = 1_000_000;
 
+/// The greatest ratio, in ten-thousandths: the whole value.
 pub const MOST_RATIO: u32 = 10_000;
 
 /// A price: 1 to 100,000,000 ten-thousandths of a ruble.

@@ -7,7 +7,8 @@ use full::settings::Settings;
 use full::side::Side;
 use plans::machine::Machine;
 use printing::calls::{announce, open, trade};
-use printing::shown::{ShownCall, ShownOutcome};
+use printing::printed_call::PrintedCall;
+use printing::printed_outcome::PrintedOutcome;
 use registers::image;
 use registers::image::ImageStore;
 use registers::kind::RegisterKind;
@@ -37,8 +38,8 @@ fn withdraw(number: u32) -> Call {
 /// Makes calls, and prints each with its answer.
 fn make<S: Store>(rt: &HostRuntime, engine: &mut Engine<S>, calls: &[Call]) -> io::Result<()> {
     for call in calls {
-        let outcome = ShownOutcome(engine.carry_out(*call));
-        println!(rt; "{}: {outcome}", ShownCall(*call))?;
+        let outcome = PrintedOutcome(engine.carry_out(*call));
+        println!(rt; "{}: {outcome}", PrintedCall(*call))?;
     }
     Ok(())
 }

@@ -11,8 +11,8 @@ use partial::call::Call;
 use partial::engine::Engine;
 use plans::machine::Machine;
 use printing::calls::{SECURITY, announce};
-use printing::shown::ShownOutcome;
-use printing::shown_partial::ShownPartialCall;
+use printing::printed_outcome::PrintedOutcome;
+use printing::printed_partial_call::PrintedPartialCall;
 use registers::image;
 use registers::image::ImageStore;
 use registers::row::BLANK;
@@ -23,8 +23,8 @@ use std::io;
 /// Makes calls, and prints each with its answer.
 fn make<S: Store>(rt: &HostRuntime, engine: &mut Engine<S>, calls: &[Call]) -> io::Result<()> {
     for call in calls {
-        let outcome = ShownOutcome(engine.carry_out(*call));
-        println!(rt; "{}: {outcome}", ShownPartialCall(*call))?;
+        let outcome = PrintedOutcome(engine.carry_out(*call));
+        println!(rt; "{}: {outcome}", PrintedPartialCall(*call))?;
     }
     Ok(())
 }

@@ -7,7 +7,7 @@ use std::{fmt, io};
 
 /// An obligation, to be printed.
 #[derive(Clone, Copy)]
-struct ShownObligation(Obligation);
+struct PrintedObligation(Obligation);
 
 fn what_is_owed(stage: Stage) -> &'static str {
     match stage {
@@ -17,7 +17,7 @@ fn what_is_owed(stage: Stage) -> &'static str {
     }
 }
 
-impl fmt::Display for ShownObligation {
+impl fmt::Display for PrintedObligation {
     fn fmt<W: fmt::Write>(&self, f: &mut fmt::Formatter<W>) -> fmt::Result {
         let Obligation {
             number,
@@ -39,7 +39,7 @@ impl fmt::Display for ShownObligation {
 /// Prints every obligation that stands.
 pub fn show_obligations(rt: &HostRuntime, obligations: &Obligations) -> io::Result<()> {
     for obligation in obligations.table.iter().flatten() {
-        println!(rt; "{}", ShownObligation(*obligation))?;
+        println!(rt; "{}", PrintedObligation(*obligation))?;
     }
     Ok(())
 }

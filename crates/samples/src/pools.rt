@@ -9,8 +9,8 @@ use pool::call::Call;
 use pool::engine::Engine;
 use pool::leg::Leg;
 use pool::ticket::{Collecting, Ending};
-use printing::shown::ShownOutcome;
-use printing::shown_pool::ShownPoolCall;
+use printing::printed_outcome::PrintedOutcome;
+use printing::printed_pool_call::PrintedPoolCall;
 use registers::image;
 use registers::image::ImageStore;
 use registers::row::BLANK;
@@ -28,7 +28,7 @@ pub struct Pool<'a> {
 }
 
 fn tell(rt: &HostRuntime, call: Call, outcome: Result<i64, Refusal>) -> io::Result<()> {
-    println!(rt; "{}: {}", ShownPoolCall(call), ShownOutcome(outcome))
+    println!(rt; "{}: {}", PrintedPoolCall(call), PrintedOutcome(outcome))
 }
 
 /// Makes calls of Level Two, prints each with its answer, and then every row and every obligation.

@@ -6,8 +6,10 @@
 #![tactic(auto)]
 
 mod call_counts;
+mod dealings;
 mod rounds;
 mod runs;
+mod size;
 
 use std::{env, io};
 

@@ -1,8 +1,10 @@
 //! Rounds of dealing on the engine.
 
-ghost use Rattle.std.specs.Prelude.{◌≡◌, ◌+◌, ◌≤◌, ◌*◌};
+ghost use Rattle.std.specs.Prelude.{◌≡◌, ◌*◌};
 
 use crate::call_counts::CallCounts;
+use crate::dealings::Dealings;
+use crate::size::{FIRST, Size};
 use full::announcement::Announcement;
 use full::deal::Deal;
 use full::engine::Engine;
@@ -11,7 +13,6 @@ use full::opening::Opening;
 use full::side::Side;
 use registers::kind::RegisterKind;
 use registers::store::Store;
-use std::fmt;
 
 /// The security that is dealt in.
 pub const SECURITY: u16 = 5;
@@ -24,44 +25,8 @@ const QUANTITY: u32 = 2;
 
 const PRICE: u32 = 12_345;
 
-/// The first account.
-const FIRST: u32 = 700;
-
 /// The limit with which a register is opened, in kopecks or pieces.
 const LIMIT: u64 = 100_000_000_000_000;
-
-/// How many accounts there are, from 700 on, and how many rounds are carried out. In each round the last
-/// account but one buys from the last.
-#[derive(Clone, Copy, PartialEq, Eq, Debug)]
-pub struct Size {
-    pub accounts: u32,
-    pub rounds: u32,
-    ghost two: { 2 ≤ accounts },
-    ghost stored: { accounts ≤ 2000 },
-    ghost numbered: { rounds ≤ 1000000 },
-}
-
-/// The calls of rounds, by their kinds.
-#[derive(Clone, Copy, PartialEq, Eq, Debug)]
-pub struct Dealings {
-    pub purchases: CallCounts,
-    pub sales: CallCounts,
-    pub trades: CallCounts,
-}
-
-/// A line for each kind.
-impl fmt::Display for Dealings {
-    fn fmt<W: fmt::Write>(&self, f: &mut fmt::Formatter<W>) -> fmt::Result {
-        let Dealings {
-            purchases,
-            sales,
-            trades,
-        } = *self;
-        writeln!(f, "purchases: {purchases}")?;
-        writeln!(f, "sales: {sales}")?;
-        write!(f, "trades: {trades}")
-    }
-}
 
 fn opening(kind: RegisterKind, code: u32, security: u16) -> Opening {
     Opening {
@@ -92,22 +57,6 @@ fn bargain(number: u32, buy: u32, sell: u32) -> Deal {
         sell,
         quantity: QUANTITY,
         price: PRICE,
-    }
-}
-
-impl Size {
-    /// The account that buys.
-    pub fn buyer(self) -> u32
-        ensures { result ≡ 698 + self.accounts }
-    {
-        FIRST + self.accounts - 2
-    }
-
-    /// The account that sells.
-    pub fn seller(self) -> u32
-        ensures { result ≡ 699 + self.accounts }
-    {
-        FIRST + self.accounts - 1
     }
 }
 

@@ -1,11 +1,11 @@
 //! Runs of the rounds over both stores, printed.
 
-use crate::rounds::{SECURITY, Size, admit, deal, open};
+use crate::rounds::{SECURITY, admit, deal, open};
+use crate::size::Size;
 use full::engine::Engine;
 use full::keys::{cash_key, holding_key};
 use full::settings::Settings;
-use registers::image;
-use registers::image::ImageStore;
+use registers::image::{self, HEADER, ImageStore, ROW};
 use registers::row::BLANK;
 use registers::store::{MOST_ROWS, Store};
 use registers::table::RowStore;
@@ -16,7 +16,7 @@ use std::time::{Duration, Instant};
 const RESERVE: u16 = 200;
 
 /// Bytes of an image with room for as many rows as a store may have.
-const IMAGE: usize = 7 + 31 * MOST_ROWS;
+const IMAGE: usize = HEADER + ROW * MOST_ROWS;
 
 /// The rounds whose answers are printed alone.
 const FEW: [Size; 4] = [

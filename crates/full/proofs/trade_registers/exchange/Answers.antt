@@ -10,4 +10,4 @@ returns-clause-follow g c =
     let parts = four_parts (g.S.Store.rows c.args.store.now) c.args.pair.buy.account c.args.pair.sell.account c.args.pair.buy.security c.in_ok-registers.registers (sym c.in_ok-registers.ensures.answer) in
     let apart = four_apart _ _ _ _ _ parts c.requires c.args.pair.quantity.value c.money-value.result.units c.money.result.units in
     let standing = four_standing _ _ _ _ _ parts c.args.pair.quantity.value c.money-value.result.units c.money.result.units in
-    IfOk-weaker c.settle.result _ _ (λ ms e. subst (Following _) (sym e) (apart_follow _ (moves_of c.in_ok-registers.registers c.args.pair.quantity.value c.money-value.result.units c.money.result.units) apart standing)) c.settle.ensures.moves
+    IfOk-weaker c.ended.result _ _ (λ ms e. subst (Following _) (sym e) (apart_follow _ (moves_of c.in_ok-registers.registers c.args.pair.quantity.value c.money-value.result.units c.money.result.units) apart standing)) c.ended.ensures.moves

@@ -1,41 +1,40 @@
 use Rattle.std.proofs.Common.{◌≡◌, Ok, ◌∙◌}
 use Rattle.std.proofs.lemmas.Result.{err_from_is_err_and}
 use Rattle.hex_source.specs.declared.fault.Fault.TheVariants.{HalfByte}
-use Rattle.hex_source.specs.declared.fault.SourceError.TheVariants.{Misspelled}
-use Rattle.hex_source.specs.Spelling.{spelled}
+use Rattle.hex_source.specs.declared.source_error.SourceError.TheVariants.{Misspelled}
+use Rattle.hex_source.specs.Spelling.{spelled, IsFaultOf}
 use Rattle.hex_source.proofs.Letterwise.{behind-ended}
 use Rattle.hex_source.proofs.Parsed.{laid_out_from_spelled, is_break_from_fault}
 use Rattle.hex_source.proofs.Piecewise.{spelled-laid_out, spelled-breaks_off, memory_at_laid_out, fault_at_break}
 use Rattle.hex_source.proofs.reading.bytes_of.Goals as goal
 
-pub returns-in_err-reading-clause-laid_out : goal.returns-in_err-reading-clause-laid_out
-returns-in_err-reading-clause-laid_out c =
-    λ bytes laid.
+pub returns-in_err-reading : goal.returns-in_err-reading
+returns-in_err-reading c =
+    let text = c.args.source.now in
     let p = err_from_is_err_and c.from_residual.result c.from_residual.ensures.1 in
-    rw (p.1, p.2) (memory_at_laid_out c.args.source.now bytes _ c.in_err-reading.ensures.err laid)
+    let h = c.in_err-reading.ensures.err in
+    rw (p.1, p.2) (record {
+      ok = tt;
+      err = h;
+      laid_out = λ bytes laid. memory_at_laid_out text bytes _ h laid;
+      breaks_off = λ misspelling breaks. fault_at_break text misspelling _ h breaks;
+      was_laid_out = tt;
+      was_broken = is_break_from_fault text _ h;
+    })
 
-pub returns-in_err-reading-clause-breaks_off : goal.returns-in_err-reading-clause-breaks_off
-returns-in_err-reading-clause-breaks_off c =
-    λ misspelling breaks.
-    let p = err_from_is_err_and c.from_residual.result c.from_residual.ensures.1 in
-    rw (p.1, p.2) (fault_at_break c.args.source.now misspelling _ c.in_err-reading.ensures.err breaks)
-
-pub returns-in_err-reading-clause-was_broken : goal.returns-in_err-reading-clause-was_broken
-returns-in_err-reading-clause-was_broken c =
-    let p = err_from_is_err_and c.from_residual.result c.from_residual.ensures.1 in
-    rw (p.1, p.2) (is_break_from_fault c.args.source.now _ c.in_err-reading.ensures.err)
-
-pub returns-in-Half-clause-laid_out : goal.returns-in-Half-clause-laid_out
-returns-in-Half-clause-laid_out c =
-    λ bytes laid. memory_at_laid_out c.args.source.now bytes (Misspelled (record { line = c.in_ok-reading.reading.line; fault = HalfByte })) (rw c.in-Half.is at c.in_ok-reading.ensures.ok) laid
-
-pub returns-in-Half-clause-breaks_off : goal.returns-in-Half-clause-breaks_off
-returns-in-Half-clause-breaks_off c =
-    λ misspelling breaks. fault_at_break c.args.source.now misspelling (Misspelled (record { line = c.in_ok-reading.reading.line; fault = HalfByte })) (rw c.in-Half.is at c.in_ok-reading.ensures.ok) breaks
-
-pub returns-in-Half-clause-was_broken : goal.returns-in-Half-clause-was_broken
-returns-in-Half-clause-was_broken c =
-    is_break_from_fault c.args.source.now (Misspelled (record { line = c.in_ok-reading.reading.line; fault = HalfByte })) (rw c.in-Half.is at c.in_ok-reading.ensures.ok)
+pub returns-in-Half : goal.returns-in-Half
+returns-in-Half c =
+    let text = c.args.source.now in
+    let error = Misspelled (record { line = c.in_ok-reading.reading.line; fault = HalfByte }) in
+    let h : IsFaultOf text error = rw c.in-Half.is at c.in_ok-reading.ensures.ok in
+    record {
+      ok = tt;
+      err = h;
+      laid_out = λ bytes laid. memory_at_laid_out text bytes error h laid;
+      breaks_off = λ misspelling breaks. fault_at_break text misspelling error h breaks;
+      was_laid_out = tt;
+      was_broken = is_break_from_fault text error h;
+    }
 
 pub returns : goal.returns
 returns c =

@@ -1,19 +1,19 @@
-use Rattle.std.proofs.Common.{rules, ◌≡◌, false, ◌<◌, length, Some, sym, ap, ◌∙◌, arith}
-use Rattle.std.specs.List.{list_all, slice_get}
+use Rattle.std.proofs.Common.{rules, ◌≡◌, false, ◌<◌, length, sym, ap, ◌∙◌, arith}
+use Rattle.std.specs.List.{list_all}
 use Rattle.pool.specs.Calls.{may_sweep}
-use Rattle.pool.proofs.Sweeps.{demanded, refused, fine_more, fine_not, not_absent}
+use Rattle.pool.proofs.Sweeps.{demanded, refused, fine_more, fine_not, not_absent, read_same}
 use Rattle.pool.proofs.sweep.all_may_sweep.Goals as goal
 
 pub returns-in_err-may_sweep-clause-answer : goal.returns-in_err-may_sweep-clause-answer
 returns-in_err-may_sweep-clause-answer g c =
-    let at : slice_get (g.S.Store.rows c.args.store.now) c.loop-place.place ≡ Some c.in-Some.row = ap (λ (rs : _). slice_get rs c.loop-place.place) (sym c.loop-place.invariant.asked.same_rows) ∙ sym c.row.ensures.answer ∙ c.in-Some.is in
+    let at = read_same _ _ c.loop-place.place c.in-Some.row _ c.loop-place.invariant.asked.same_rows c.row.ensures.answer c.in-Some.is in
     let no = refused (may_sweep c.in-Some.row) _ _ (sym c.may_sweep.ensures ∙ c.in_err-may_sweep.was) in
     let not : list_all may_sweep (g.S.Store.rows c.args.store.now) ≡ false = fine_not (g.S.Store.rows c.args.store.now) c.loop-place.place c.in-Some.row at no in
     search rules
 
 pub loop-place-preserved : goal.loop-place-preserved
 loop-place-preserved g c =
-    let at : slice_get (g.S.Store.rows c.args.store.now) c.loop-place.place ≡ Some c.in-Some.row = ap (λ (rs : _). slice_get rs c.loop-place.place) (sym c.loop-place.invariant.asked.same_rows) ∙ sym c.row.ensures.answer ∙ c.in-Some.is in
+    let at = read_same _ _ c.loop-place.place c.in-Some.row _ c.loop-place.invariant.asked.same_rows c.row.ensures.answer c.in-Some.is in
     record {
       asked = record {
         same_rows = c.row.ensures.asked.same_rows ∙ c.loop-place.invariant.asked.same_rows;

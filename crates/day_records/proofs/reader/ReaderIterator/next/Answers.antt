@@ -5,7 +5,7 @@ use Rattle.day_records.specs.declared.placed_record.PlacedRecord.{PlacedRecord}
 use Rattle.day_records.specs.Kinds.{body_of}
 use Rattle.day_records.specs.Items.{item_at, place_after, items_from}
 use Rattle.day_records.specs.Views.{item_as, items_left, told_as}
-use Rattle.day_records.proofs.Steps.{Step, step, fields_whole}
+use Rattle.day_records.proofs.Reading.{ItemRead, item_read, fields_whole}
 use Rattle.day_records.proofs.reader.ReaderIterator.next.Goals as goal
 
 pub returns-then-place-bytes : goal.returns-then-place-bytes
@@ -41,15 +41,15 @@ returns c =
     let left : c.match-told.self ≡ place_after (told_as (Some told)) p (length s) =
     elim c.match-told.branch [ goal.in-Ok w ↦ w.self-is ∙ past s p told at w.in-Ok.read w.length.result w.in-Ok.is w.length.ensures | goal.in-Err w ↦ omega (arith, w.self-is, ended s p told at _ w.in-Err.is) ]
     in
-    let step_told : Step s p (told_as (Some told)) = rw at (step s p) in
-    let items : items_left c.args.self.now ≡ item_as told ∷ items_from 0 c.match-told.self (drop c.match-told.self s) = rw left step_told.items in
+    let told_read : ItemRead s p (told_as (Some told)) = rw at (item_read s p) in
+    let items : items_left c.args.self.now ≡ item_as told ∷ items_from 0 c.match-told.self (drop c.match-told.self s) = rw left told_read.items in
     record {
       steps = record {
         items = items;
         answer = at;
         left = left;
         same = refl;
-        ends = rw left ((step_told.ends refl).0, (step_told.ends refl).1, search rules);
+        ends = rw left ((told_read.ends refl).0, (told_read.ends refl).1, search rules);
       };
       goes = record { on = λ _. (tt, tt, omega (arith, ap length items)); keeps = tt; rests = λ _. tt };
     }

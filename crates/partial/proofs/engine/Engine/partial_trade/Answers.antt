@@ -7,5 +7,5 @@ pub returns : goal.returns
 unfolding partial_trade_of
 returns g c =
     let follow : Following (g.S.Store.rows c.limits_drawn.new.store) (c.in_ok-drawn.drawn.buyer ∷ c.in_ok-drawn.drawn.seller ∷ []) = search rules in
-    let led = g.met.S.Store.asked_first _ _ _ _ c.limits_drawn.ensures.asked.changes (c.put_moves.ensures.changes follow) in
+    let led = g.met.S.Store.asked_first _ _ _ _ c.limits_drawn.ensures.asked.changes (c.put_moves.ensures.changes_following follow) in
     search rules
