@@ -9,7 +9,7 @@ use Rattle.std.proofs.lemmas.Int.{to_z-of_z, of_z-to_z}
 use Rattle.std.proofs.lemmas.Int.Digits.{number_push, number_lt}
 use Rattle.std.proofs.lemmas.Nat.{div_below, div-add-mod', div-mul-add, mod-mul-add}
 use Rattle.std.specs.Int.Digits.{AllBelowBase}
-use Rattle.byte_fields.specs.Fields.{be, signed_be, bytes_of, signed_bytes_of, part, within, spliced, written_at, meant_at, ReadBack, Rewritten, SignedReadBack, SignedRewritten}
+use Rattle.byte_fields.specs.Fields.{be, signed_be, bytes_of, signed_bytes_of, part, within, spliced, written_at, put_at, meant_at, ReadBack, Rewritten, SignedReadBack, SignedRewritten}
 
 pub length-bytes_of : (k n : ℕ) → length (bytes_of k n) ≡ k
 length-bytes_of zero n = refl
@@ -117,6 +117,9 @@ length-written_at k at ys s len = by (leb (k + at) (length s)) refl
     by : (b : Bool) → leb (k + at) (length s) ≡ b → length (if b then spliced k at ys s else s) ≡ length s
     by true e = length-spliced k at ys s (leb-true _ _ e) len
     by false e = refl
+
+pub length-put_at : (k at n : ℕ) (s : List ℕ) → length (put_at k at n s) ≡ length s
+length-put_at k at n s = length-written_at k at (bytes_of k n) s (length-bytes_of k n)
 
 -- by any meaning of bytes: what was written means there what it means by itself
 meant_back : {X : Type 0} (f : List ℕ → X) (k at : ℕ) (ys s : List ℕ) → length ys ≡ k → within k at s ≡ true → meant_at f k at (written_at k at ys s) ≡ Some (f ys)

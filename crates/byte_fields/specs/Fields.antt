@@ -43,9 +43,12 @@ written_over k ys s = if fills k s then ys else s
 abbrev pub meant_at : {X : Type 0} → (List ℕ → X) → ℕ → ℕ → List ℕ → Option X
 meant_at f k at s = if within k at s then Some (f (part k at s)) else None
 
--- the number in a field of k bytes at a place
+-- the number in a field of k bytes at a place, and the same as a signed one of 64 bits
 abbrev pub read_at : ℕ → ℕ → List ℕ → Option ℕ
 read_at k at s = meant_at be k at s
+
+abbrev pub signed_at : ℕ → List ℕ → Option ℤ
+signed_at at s = meant_at signed_be 8 at s
 
 -- bytes with others in the place of the k from a place on; every other byte stays
 abbrev pub spliced : ℕ → ℕ → List ℕ → List ℕ → List ℕ
@@ -68,7 +71,7 @@ Rewritten = (k at : ℕ) (s : List ℕ) → AllBelowBase 256 s → within k at s
 
 -- the same of signed numbers of 64 bits
 abbrev pub SignedReadBack : Type 0
-SignedReadBack = (at : ℕ) (z : ℤ) (s : List ℕ) → FitsSigned w64 z → within 8 at s ≡ true → meant_at signed_be 8 at (written_at 8 at (signed_bytes_of z) s) ≡ Some z
+SignedReadBack = (at : ℕ) (z : ℤ) (s : List ℕ) → FitsSigned w64 z → within 8 at s ≡ true → signed_at at (written_at 8 at (signed_bytes_of z) s) ≡ Some z
 
 abbrev pub SignedRewritten : Type 0
 SignedRewritten = (at : ℕ) (s : List ℕ) → AllBelowBase 256 s → within 8 at s ≡ true → written_at 8 at (signed_bytes_of (signed_be (part 8 at s))) s ≡ s

@@ -1,5 +1,5 @@
 -- The engine's state, as the rules speak of it.
-use Rattle.std.specs.Prelude.{ℕ, ◌-◌, Bool, false, if◌then◌else◌, List, map, is_none, Some, None, Option, ◌==◌, nat_eq, nat_le}
+use Rattle.std.specs.Prelude.{ℕ, ◌-◌, Bool, false, if◌then◌else◌, List, map, take, min, is_none, Some, None, Option, ◌==◌, nat_eq, nat_le}
 use Rattle.std.specs.List.{slice_get}
 use Rattle.std.specs.Option.{option_map}
 use Rattle.seek.specs.Place.{place_of}
@@ -9,6 +9,7 @@ use Rattle.full.specs.declared.order.Order.{Order}
 use Rattle.full.specs.declared.book.Book.{Book}
 use Rattle.full.specs.declared.security.Security.{Security}
 use Rattle.full.specs.declared.securities.Securities.{Securities}
+use Rattle.full.specs.declared.securities.TheConstants.{MOST_SECURITIES}
 
 -- an admitted security and its market risk ratio
 pub record Admitted : Type 0 where
@@ -40,7 +41,7 @@ abbrev pub admitted_of : Security → Admitted
 admitted_of s = record { number = s.number; ratio = s.ratio.value }
 
 abbrev pub list_of : Securities → List Admitted
-list_of s = map admitted_of s.list.items
+list_of s = map admitted_of (take (min s.filled MOST_SECURITIES) s.table)
 
 -- whether a place of the book holds the order of a number
 abbrev pub has_number : ℕ → Option Live → Bool

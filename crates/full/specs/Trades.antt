@@ -121,6 +121,10 @@ abbrev pub Following : List Row → List Move → Type 0
 Following rs [] = Unit {0}
 Following rs (m ∷ ms) = FiguresAt rs m.place m.before × Following (moved rs m) ms
 
+-- moves each of which starts from what stands before any of them is put
+abbrev pub Standing : List Row → List Move → Type 0
+Standing rs ms = AllByRecursion (λ (m : Move). FiguresAt rs m.place m.before) ms
+
 -- moves of places that rise: one for each place, the lowest place first
 abbrev pub Above : ℕ → List Move → Type 0
 Above n ms = AllByRecursion (λ (m : Move). n < m.place) ms
@@ -135,3 +139,11 @@ OrderedRising = (ms : List Move) → Rising (in_order ms)
 
 abbrev pub OrderedLeads : Type 0
 OrderedLeads = (rs : List Row) (ms : List Move) → Following rs ms → Following rs (in_order ms) × (moved_all rs (in_order ms) ≡ moved_all rs ms)
+
+-- whatever stands at their places, moves lead to the same rows in order; and where each starts from what stands
+-- before any of them is put, each does in order
+abbrev pub OrderedSame : Type 0
+OrderedSame = (rs : List Row) (ms : List Move) → moved_all rs (in_order ms) ≡ moved_all rs ms
+
+abbrev pub OrderedStanding : Type 0
+OrderedStanding = (rs : List Row) (ms : List Move) → Standing rs ms → Standing rs (in_order ms)

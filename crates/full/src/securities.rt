@@ -1,6 +1,6 @@
 //! The list of admitted securities.
 
-ghost use Rattle.std.specs.Prelude.{◌≡◌, ◌≤◌, [], ◌∷◌, ◌++◌, length, if◌then◌else◌, nat_lt, Ok};
+ghost use Rattle.std.specs.Prelude.{◌≡◌, min, ◌≤◌, [], ◌∷◌, ◌++◌, length, if◌then◌else◌, nat_lt, Ok};
 ghost use Rattle.std.specs.Option.{option_map};
 ghost use Rattle.plans.specs.declared.refusal.Refusal.TheVariants.{SecuritiesFull};
 ghost use Rattle.plans.specs.Steps.{demand};
@@ -8,17 +8,19 @@ ghost use Rattle.full.specs.Orders.{list_of, admitted_of, admitted_as};
 
 use crate::security::Security;
 use crate::security_number::SecurityNumber;
-use arrayvec::ArrayVec;
 use plans::refusal::Refusal;
 use registers::ranges::Ratio;
 
 /// How many securities may be admitted.
 pub const MOST_SECURITIES: usize = 64;
 
-/// The admitted securities, in the order of their admission.
-#[derive(Clone, PartialEq, Eq, Debug, Drop)]
+/// The admitted securities, in the order of their admission: the first `filled` places of the table. What the
+/// places behind them hold means nothing.
+// a table with a count beside it, which is `Copy`, as the kit's `ArrayVec` is not
+#[derive(Clone, Copy, PartialEq, Eq, Debug)]
 pub struct Securities {
-    pub list: ArrayVec<Security, MOST_SECURITIES>,
+    pub table: [Security; MOST_SECURITIES],
+    pub filled: usize,
 }
 
 impl Securities {
@@ -27,25 +29,28 @@ impl Securities {
         ensures { list_of result ≡ [] }
     {
         Securities {
-            list: ArrayVec::new(),
+            table: [Security::default(); MOST_SECURITIES],
+            filled: 0,
         }
     }
 
     /// How many securities are admitted.
     pub fn count(&self) -> usize
         ensures value { result ≡ length (list_of self.now) }
+        ensures held { result ≡ min self.now.filled MOST_SECURITIES }
+        ensures whole { length self.now.table ≡ MOST_SECURITIES }
         ensures bound { result ≤ MOST_SECURITIES }
     {
-        self.list.len()
+        self.filled.min(self.table.len())
     }
 
     /// The ratio of an admitted security, or `None` where it is not admitted.
-    #[tactic(auto, using(crate::proofs::Tables::found_in_list))]
     pub fn ratio(&self, number: u16) -> Option<Ratio>
         ensures { option_map (λ k. k.value) result ≡ admitted_as (list_of self.now) number }
     {
-        let place = seek::find(self.list.as_slice(), SecurityNumber(number))?;
-        Some(self.list[place].ratio)
+        let count = self.count();
+        let place = seek::find(&self.table[0..count], SecurityNumber(number))?;
+        Some(self.table[place].ratio)
     }
 
     /// Admits a security. Refuses (4) where 64 are admitted, and the list is then as it stood.
@@ -55,10 +60,12 @@ impl Securities {
         ensures after { list_of self.new
             ≡ (if nat_lt (length (list_of self.old)) MOST_SECURITIES then list_of self.old ++ admitted_of security ∷ [] else list_of self.old) }
     {
-        if self.list.is_full() {
+        let count = self.count();
+        if count >= MOST_SECURITIES {
             return Err(Refusal::SecuritiesFull);
         }
-        self.list.push(security);
+        self.table[count] = security;
+        self.filled = count + 1;
         Ok(())
     }
 }

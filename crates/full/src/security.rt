@@ -12,7 +12,7 @@ pub struct Security {
 }
 
 /// The security of number 0, which none bears, under the least ratio.
-// the kit's `ArrayVec` asks for it, to fill the places that hold nothing yet
+// it fills the places that hold nothing yet
 impl Default for Security {
     ghost is_default = { λ s. (s.number ≡ 0) × (s.ratio.value ≡ 1) };
 
