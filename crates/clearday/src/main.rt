@@ -3,10 +3,11 @@
 #![tactic(auto)]
 
 use dayfile::day::Day;
+use dayfile::writing::write_lines;
 use registers::row::BLANK;
 use registers::table::RowStore;
 use std::io;
-use std::io::Read;
+use std::io::{BufWriter, Read, Write};
 
 /// One byte more than a day file may have: what lies behind it need not be read to know that the file
 /// is too long.
@@ -18,9 +19,9 @@ const ROOM: usize = 1_024;
 fn main(rt: HostRuntime) -> io::Result<()> {
     let mut file = Vec::new(rt.alloc());
     rt.stdin().take(ENOUGH).read_to_end(&mut file)?;
+    let mut out = BufWriter::new(rt.alloc(), io::writer(&rt))?;
     let mut table = [BLANK; ROOM];
-    for line in Day::new(RowStore::new(&mut table), file.as_slice()) {
-        println!(rt; "{line}")?;
-    }
-    Ok(())
+    let mut day = Day::new(RowStore::new(&mut table), file.as_slice());
+    write_lines(&mut day, &mut out)?;
+    out.flush()
 }

@@ -1,3 +1,3 @@
 pub mod Ends
-pub mod NextLine
 pub mod Overwritten
+pub mod RecordsTold

@@ -1,11 +1,13 @@
 //! Carrying out a whole day.
 
-ghost use Rattle.std.specs.Prelude.{◌≡◌, List, ◌∷◌};
+ghost use Rattle.std.specs.Prelude.{◌≡◌, List, [], ◌∷◌, IfSome, IfNone};
 ghost use Rattle.dayfile.specs.declared.line.Line.{Line as LineOf};
+ghost use Rattle.dayfile.specs.Days.{lines_left, calls_left, GoesOn};
 ghost use Rattle.day_runs.specs.Days.{overwritten, told_by, RanDay, changes_of_day};
 
 use dayfile::day::Day;
 use dayfile::line::Line;
+use dayfile::listing_stage::ListingStage;
 use dayfile::refusal::LineRefusal;
 use partial::engine::Engine;
 use registers::store::Store;
@@ -24,6 +26,20 @@ fn tell(outcomes: &mut [Result<i64, LineRefusal>], next: usize, line: Line) -> u
     }
     outcomes[next] = outcome;
     next + 1
+}
+
+/// The next line of a day, or `None` once its records are told: the lines of registers, which come then,
+/// tell of no record.
+fn next_of_records<S: Store>(day: &mut Day<'_, S>) -> Option<Line>
+    ensures line { IfSome result (λ line. lines_left day.old ≡ line ∷ lines_left day.new) }
+    ensures told { IfNone result (told_by (lines_left day.old) ≡ []) }
+    ensures called { IfNone result (calls_left day.new ≡ []) }
+    ensures goes_on { GoesOn day.old day.new }
+{
+    match day.stage {
+        ListingStage::Registers(_) => None,
+        ListingStage::Header(_) | ListingStage::Records => day.next_line(),
+    }
 }
 
 /// Carries out a day file over a store, line by line as a `Day` tells it, and hands the engine out as the
@@ -45,7 +61,7 @@ pub fn run_day<S: Store>(
 {
     let mut day = Day::new(store, file);
     let mut next = 0;
-    while let Some(line) = day.next_line() {
+    while let Some(line) = next_of_records(&mut day) {
         next = tell(outcomes, next, line);
     }
     day.into_engine()

@@ -1,10 +1,12 @@
 -- The lines of a day that are still to be told.
-use Rattle.std.specs.Prelude.{◌≡◌, ℕ, List, [], ◌∷◌, map, drop, Some, None, Option, Ok, Err, Result}
+use Rattle.std.specs.Prelude.{◌≡◌, ℕ, List, [], ◌∷◌, ◌++◌, map, drop, Some, None, Option, Ok, Err, Result}
 use Rattle.std.specs.Iterator.{YieldsFirst}
 use Rattle.registers.specs.declared.store.Store.{Ghosts}
 use Rattle.registers.specs.Changes.{Change}
+use Rattle.plans.specs.Runs.{state_after, changes_over}
 use Rattle.partial.specs.declared.call.Call.{Call}
 use Rattle.partial.specs.State.{State}
+use Rattle.partial.specs.Plans.{call_of}
 use Rattle.day_records.specs.Items.{Item, Seen, Bad}
 use Rattle.day_records.specs.Views.{items_left, item_next}
 use Rattle.dayfile.specs.declared.listing_stage.ListingStage.{ListingStage}
@@ -79,3 +81,10 @@ pub record Advances {S : Type 0} {store : Ghosts S} (before after : Day S store)
 pub record Tells {S : Type 0} {store : Ghosts S} (before : Day S store) (r : Option Line) (after : Day S store) : Type 0 where
   pub lines : YieldsFirst lines_left before r after
   pub advances : Advances before after
+
+-- a day that has gone on by some of its lines: what is left leads where all that was left led
+pub record GoesOn {S : Type 0} {store : Ghosts S} (before after : Day S store) : Type 0 where
+  pub lines : (ls : List Line) × (lines_left before ≡ ls ++ lines_left after)
+  pub state : state_after call_of after.engine.state (calls_left after) ≡ state_after call_of before.engine.state (calls_left before)
+  pub changes : (end : S) → store.made after.engine.store (changes_over call_of after.engine.state (calls_left after)) end
+      → store.made before.engine.store (changes_over call_of before.engine.state (calls_left before)) end

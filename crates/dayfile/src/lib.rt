@@ -8,3 +8,4 @@ pub mod line;
 pub mod listing;
 pub mod listing_stage;
 pub mod refusal;
+pub mod writing;

@@ -8,6 +8,7 @@ use day_records::record::Record;
 use day_records::shape::Shape;
 use day_records::whole_file::read_all;
 use dayfile::calls::call;
+use dayfile::refusal::LineRefusal;
 use partial::call::Call;
 use std::test::Fail;
 
@@ -94,9 +95,12 @@ fn fault_of_the_header(rt: HostRuntime) -> Result<(), Fail> {
 
 // numbers and letters, which the rules give: tests hold to them
 
-/// The number of the fault that a record has in place of a call, or `None` where there is a call.
-fn refused(answer: Result<Call, FileFault>) -> Option<u8> {
-    answer.err().map(|fault| fault.number())
+/// Number and layer of the refusal that a record has in place of a call, or `None` where there is a call.
+fn refused(answer: Result<Call, FileFault>) -> Option<(u8, char)> {
+    answer.err().map(|fault| {
+        let refusal = LineRefusal::from(fault);
+        (refusal.number(), refusal.layer().letter())
+    })
 }
 
 /// Fields that are cut short give no call.
@@ -110,8 +114,8 @@ fn records_without_a_call(rt: HostRuntime) {
         kind: 1,
         rest: &DAY[9..30],
     };
-    check(&rt, refused(call(admission)), Some(32));
-    check(&rt, refused(call(opening)), Some(32));
+    check(&rt, refused(call(admission)), Some((32, 'F')));
+    check(&rt, refused(call(opening)), Some((32, 'F')));
 }
 
 /// Posting and debiting, with each length of the fields behind the participant: only the whole amount
@@ -129,8 +133,8 @@ fn posting_and_debiting_cut_at_every_byte(rt: HostRuntime) {
             participant: 7,
             rest: &amount[0..length],
         };
-        check(&rt, refused(call(posting)), Some(32));
-        check(&rt, refused(call(debit)), Some(32));
+        check(&rt, refused(call(posting)), Some((32, 'F')));
+        check(&rt, refused(call(debit)), Some((32, 'F')));
     }
     let posting = Record::Post {
         participant: 7,
