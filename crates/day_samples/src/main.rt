@@ -5,6 +5,7 @@
 
 use dayfile::listing::listing;
 use hex_source::reading::bytes_of;
+use hex_source::source_error::SourceError;
 use registers::row::BLANK;
 use registers::table::RowStore;
 use std::alloc::{AllocError, Global};
@@ -22,7 +23,8 @@ fn list(heap: Global, file: &[u8]) -> Result<String, AllocError> {
     listing(heap, RowStore::new(&mut table), file)
 }
 
-/// Compares a day with its source, where there is one.
+/// Compares a day with its source, where there is one. Fails where memory does not suffice for the bytes that
+/// the source spells.
 fn check_source(rt: &HostRuntime, name: &str, file: &[u8]) -> io::Result<()> {
     let path = format!(in rt.alloc(); "{name}.txt")?;
     let Ok(source) = fs::read(rt, path.as_str()) else {
@@ -31,6 +33,7 @@ fn check_source(rt: &HostRuntime, name: &str, file: &[u8]) -> io::Result<()> {
     match bytes_of(rt.alloc(), source.as_slice()) {
         Ok(spelled) if spelled.as_slice() == file => print!(rt; ", as its source spells it"),
         Ok(_) => print!(rt; ", OTHER THAN ITS SOURCE"),
+        Err(SourceError::OutOfMemory) => Err(io::Error::from(AllocError)),
         Err(error) => print!(rt; ", NO SOURCE: {error}"),
     }
 }

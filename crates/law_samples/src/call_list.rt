@@ -5,6 +5,9 @@ use partial::call::Call as PartialCall;
 use pool::call::Call;
 use std::fmt;
 
+/// How many calls of a list are carried out at most, which is more than any list has.
+pub(crate) const MOST_CALLS: usize = 64;
+
 /// A list of calls of one level.
 #[derive(Clone, Copy)]
 pub enum CallList<'a> {

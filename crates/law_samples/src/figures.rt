@@ -41,7 +41,7 @@ pub(crate) fn show_figures<S: Store>(
     tally: &Tally,
     store: &mut S,
 ) -> io::Result<()> {
-    for note in tally.notes.values() {
+    for (_, note) in tally.notes.iter().flatten() {
         show_note(rt, *note)?;
     }
     // a store is asked through `&mut`, place by place

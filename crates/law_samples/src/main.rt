@@ -12,6 +12,7 @@ mod obligations;
 mod opened;
 mod owed;
 mod partial_dealings;
+mod places;
 mod pool_dealings;
 mod printed_obligation;
 mod printed_standing;

@@ -46,14 +46,15 @@ pub(crate) fn show_obligations(
     tally: &Tally,
     obligations: &Obligations,
 ) -> io::Result<()> {
-    for noted in tally.obligations.values() {
+    for (_, noted) in tally.obligations.iter().flatten() {
         show_obligation(rt, obligations, *noted)?;
     }
     let standing = count(obligations);
     let noted = tally
         .obligations
-        .values()
-        .filter(|noted| noted.left().is_some())
+        .iter()
+        .flatten()
+        .filter(|(_, noted)| noted.left().is_some())
         .count();
     println!(rt; "obligations: standing {standing}, noted {noted}")
 }

@@ -1,6 +1,6 @@
 //! Runs of lists of calls, printed with their tallies.
 
-use crate::call_list::CallList;
+use crate::call_list::{CallList, MOST_CALLS};
 use crate::figures::show_figures;
 use crate::obligations::show_obligations;
 use crate::tally::Tally;
@@ -34,15 +34,15 @@ fn show_call(
 ) -> io::Result<()> {
     println!(rt; "{}: {}", PrintedPoolCall(call), PrintedOutcome(outcome))?;
     if outcome.is_ok() {
-        tally.enter(call)?;
+        tally.enter(call);
     }
     Ok(())
 }
 
 fn show_full<S: Store + Drop>(rt: &HostRuntime, store: S, calls: &[FullCall]) -> io::Result<()> {
-    let mut outcomes = vec![in rt.alloc(); Ok(0); calls.len()]?;
+    let mut outcomes = [Ok(0); MOST_CALLS];
     let engine = full_law::runs::run(store, SETTINGS, calls, &mut outcomes);
-    let mut tally = Tally::new(rt.alloc());
+    let mut tally = Tally::new();
     for (call, outcome) in calls.iter().zip(&outcomes) {
         let call: PartialCall = (*call).into();
         show_call(rt, &mut tally, call.into(), *outcome)?;
@@ -55,10 +55,10 @@ fn show_partial<S: Store + Drop>(
     store: S,
     calls: &[PartialCall],
 ) -> io::Result<()> {
-    let mut outcomes = vec![in rt.alloc(); Ok(0); calls.len()]?;
+    let mut outcomes = [Ok(0); MOST_CALLS];
     let engine = partial_law::runs::run(store, SETTINGS, calls, &mut outcomes);
     let obligations = engine.obligations;
-    let mut tally = Tally::new(rt.alloc());
+    let mut tally = Tally::new();
     for (call, outcome) in calls.iter().zip(&outcomes) {
         show_call(rt, &mut tally, (*call).into(), *outcome)?;
     }
@@ -89,10 +89,10 @@ fn run_pool<S: Store>(
 
 /// Hands the store out again, as the last call left it.
 fn show_pool<S: Store + Drop>(rt: &HostRuntime, store: S, calls: &[Call]) -> io::Result<S> {
-    let mut outcomes = vec![in rt.alloc(); Ok(0); calls.len()]?;
+    let mut outcomes = [Ok(0); MOST_CALLS];
     let engine = run_pool(store, calls, &mut outcomes);
     let obligations = engine.partial.obligations;
-    let mut tally = Tally::new(rt.alloc());
+    let mut tally = Tally::new();
     for (call, outcome) in calls.iter().zip(&outcomes) {
         show_call(rt, &mut tally, *call, *outcome)?;
     }
